@@ -199,6 +199,11 @@ def test_the_groups_of_a_directory(tmp_path):
         ([], None),
         (["-x", "d"], None),
         (["d", "--watch", "1.2.3"], None),
+        (["--watch", "2", "d", "--watch", "3"], ("d", 3.0)),  # the last one counts
+        (["--watch", "2", "d", "--watch"], ("d", 0.5)),
+        (["d", "--watch", "."], None),
+        (["--watch", ".5", "d"], ("d", 0.5)),
+        (["--watch", "0.0", "d"], None),
     ],
 )
 def test_the_words_of_tree(words, wanted):
@@ -385,6 +390,27 @@ def test_what_ends_a_tree(tmp_path, monkeypatch, capsys, failure, status, said):
     (tmp_path / "cgroup.procs").write_text("")
     monkeypatch.setattr(tree, "watch", fails)
     assert tree.main([str(tmp_path), "--watch"]) == status and capsys.readouterr() == ("", said)
+
+
+@pytest.mark.parametrize("trace", ["", "\n", "# a comment\n", "  \t\r\n\n", "# at 5.0\n"])
+def test_a_page_of_no_command(tmp_path, capsys, trace):
+    """It is no page of something else than a trace."""
+    (tmp_path / "t").write_text(trace)
+    page = tmp_path / "t.html"
+    assert view.main([str(tmp_path / "t")]) == 0
+    assert capsys.readouterr() == (f"{page}: 0 commands, 0 refused\n", "") and page.read_text().startswith(
+        "<!DOCTYPE html>"
+    )
+
+
+def test_what_is_no_trace_is_no_page(tmp_path, capsys):
+    (tmp_path / "t").write_text("hello\nworld\n")
+    assert view.main([str(tmp_path / "t")]) == 1
+    assert capsys.readouterr() == ("", f"makhloeum view: no line of {tmp_path / 't'} is a command\n")
+    # one that is a command makes it a trace, also if it is refused
+    (tmp_path / "t").write_text("hello\nrmdir /\n")
+    assert view.main([str(tmp_path / "t")]) == 0
+    assert capsys.readouterr() == (f"{tmp_path / 't'}.html: 2 commands, 2 refused\n", "")
 
 
 def test_a_page_without_memory(tmp_path, monkeypatch, capsys):

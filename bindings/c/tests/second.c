@@ -78,7 +78,7 @@ static void *list_copies(void *stop)
 
 static int copy_of_a_quick_handle(void)
 {
-	enum { RECORDS = 8000 };
+	enum { RECORDS = 3000 };
 	mk_handle quick, copy_quick;
 	pthread_t threads[2];
 	void *good;
@@ -92,7 +92,7 @@ static int copy_of_a_quick_handle(void)
 	mk_nonblocking(&copy_quick, &copy_quick); /* once more changes nothing */
 	CHECK(pthread_create(&threads[0], NULL, list_often, &stop) == 0 &&
 		pthread_create(&threads[1], NULL, list_copies, &stop) == 0);
-	while (blocked < 30) {
+	while (blocked < 10) {
 		CHECK(mk_depth(&copied, &size) == MK_DONE && size == RECORDS); /* waits, also while the other lists */
 		blocked += mk_depth(&copy_quick, &size) == MK_WOULD_BLOCK;
 	}
