@@ -338,7 +338,8 @@ const mk_file *mk_file_at(size_t i);
 /* Writes a file as a write to a mount's does (docs/MOUNT.md, "Files"): numbers may be octal, hexadecimal or signed, a
    constant accepts its current value, and a pid of 0 is self. Statuses as for mk_write; info->error is the mount's errno.
    For MK_VALUE it can be ERANGE, ESRCH, E2BIG or EOPNOTSUPP, as in the kernel or the mount; for MK_PATH it is ENOENT, or
-   ENAMETOOLONG for a name or a path that is too long, since a mount has no such group. */
+   ENAMETOOLONG for a name or a path that is too long, since a mount has no such group. A group or a file that isn't there,
+   as pids.max of the root, comes before a fault of the value. */
 uint32_t mk_put(mk_handle *h, const char *path, const char *file, const char *data, size_t size, int64_t self,
 	mk_info *info);
 

@@ -12,6 +12,14 @@ import (
 // A wait looks at its context once in each such time.
 const slice = 50 * time.Millisecond
 
+// milliseconds is how long a call of C waits for the rest of the time: no part of a millisecond is left out.
+func milliseconds(left time.Duration) uint32 {
+	if left < 0 {
+		return 0
+	}
+	return uint32((left + time.Millisecond - 1) / time.Millisecond)
+}
+
 // Changes returns how many calls have changed the hierarchy, undos included. The error is ErrClosed or ErrBusy.
 func (h *Hierarchy) Changes() (uint64, error) {
 	var changes C.uint64_t
@@ -29,11 +37,7 @@ func (h *Hierarchy) Wait(ctx context.Context, seen uint64) (uint64, error) {
 		if end, ok := ctx.Deadline(); ok && time.Until(end) < left {
 			left = time.Until(end)
 		}
-		if left < 0 {
-			left = 0
-		}
-		milliseconds := (left + time.Millisecond - 1) / time.Millisecond
-		status := C.mk_wait(&h.handle, C.uint64_t(seen), C.uint32_t(milliseconds), &changes)
+		status := C.mk_wait(&h.handle, C.uint64_t(seen), C.uint32_t(milliseconds(left)), &changes)
 		if status == C.MK_DONE {
 			return uint64(changes), nil
 		}

@@ -192,6 +192,17 @@ func TestHowLongACallOfAWaitTakes(t *testing.T) {
 	}
 }
 
+func TestHowManyMillisecondsACallWaits(t *testing.T) {
+	for left, want := range map[time.Duration]uint32{
+		-time.Hour: 0, -1: 0, 0: 0, 1: 1, time.Microsecond: 1, time.Millisecond - 1: 1, time.Millisecond: 1, time.Millisecond + 1: 2,
+		10 * time.Millisecond: 10, 49*time.Millisecond + 1: 50, slice: 50,
+	} {
+		if got := milliseconds(left); got != want {
+			t.Errorf("%v: %d, not %d", left, got, want)
+		}
+	}
+}
+
 func TestAWaitReturnsAtItsDeadline(t *testing.T) {
 	h := open(t)
 	for _, ahead := range []time.Duration{-time.Hour, 0, time.Microsecond, 70 * time.Millisecond} {

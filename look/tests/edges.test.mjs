@@ -28,6 +28,15 @@ test("the details of a group with no process, with one and with two", async () =
   }
 });
 
+test("of thousands of processes the details say how many more there are", async () => {
+  const steps = [2, 0, 1, 3 * 3000, ...Array.from({ length: 3000 }, (_, at) => [2, 1000 + at, 1]).flat()];
+  const page = await open({ ...DATA, lines: "mkdir /a\ncat /a pids.max", answer: [0, 0], steps, names: ["/", "a"], parents: [0, 0], notes: {} });
+  page.search("/a");
+  const [, more] = /^(?:\d{4})+( \.\. .*)$/.exec(cells(page)["cgroup.procs"]), shown = page.at("group").querySelectorAll(".pid").length;
+  // each takes four digits and a blank; with the text these are at most two thousand letters: 5 * 397 + 14
+  assert.deepStrictEqual([shown, more, more.length], [397, " .. 2,603 more", 14]);
+});
+
 test("groups below a group are counted at every depth", async () => {
   const page = await open({ ...DATA, lines: "mkdir /a\nmkdir /a/b\nmkdir /a/b/c\nmkdir /d", answer: [0, 0, 0, 0], steps: [2, 0, 1, 2, 0, 2, 2, 0, 3, 2, 0, 4], names: ["/", "a", "b", "c", "d"], parents: [0, 0, 1, 2, 0], notes: {} });
   for (const [path, below] of [["/", "4"], ["/a", "2"], ["/a/b", "1"], ["/a/b/c", "0"], ["/d", "0"]]) {

@@ -67,6 +67,10 @@ test("the busiest groups: those that refused first, then those with most arrival
   assert.deepStrictEqual([1, 2, 3, 9].map((count) => run.busiest(count)), [[2], [2, 1], [2, 1, 3], [2, 1, 3]], "the root is none of them");
   assert.deepStrictEqual(runOf(["a", "b"], [0, 0], [[0, 1], [0, 2], [2, 5, 2], [2, 6, 1]]).busiest(2), [1, 2], "of equal ones the first that was made");
   assert.deepStrictEqual(runOf(["a"], [0], [[0, 1], [8, TOTAL, 1, 1, 1]]).busiest(2), [], "a refusal is that of the limit");
+  const refused = (id) => [8, TOTAL, id, 1, 1, 8, LOCAL, id, 1, 1], born = (id, from, count) => Array.from({ length: count }, (_, at) => [2, from + at, id]);
+  const many = [[0, 1], [0, 2], [0, 3], ...born(1, 1000, 3000), refused(2), ...born(3, 5000, 20), refused(3)];
+  assert.deepStrictEqual(runOf(["a", "b", "c"], [0, 0, 0], many).busiest(3), [3, 2, 1], "one refusal comes before any number of arrivals");
+  assert.deepStrictEqual(runOf(["a", "b"], [0, 0], [[0, 1], [0, 2], refused(1), ...born(1, 5, 2000), refused(2), refused(2)]).busiest(2), [2, 1], "more refusals before more arrivals");
 });
 
 test("a life goes through kills that are undone, in the group where they hit", () => {
@@ -117,6 +121,7 @@ test("a path has steps, and gaps where there is no number", () => {
   assert.strictEqual(path([0, -1], [4, -1]), "");
   assert.strictEqual(path([0, 2], [3, 0], [6, 5]), "M0 2V2H3H3V0V0H6H6V5V5H9", "0 is a number");
   assert.strictEqual(path([2, 1], [2.1, 7], [2.2, 4]), "M2 1V1V7V4H9", "three in one column");
+  assert.strictEqual(path([1.5, 1], [2, 4], [2.74, 3], [2.76, 5]), "M1.5 1V1H2H2V4V4H2.5H2.5V3V3H3H3V5V5H9", "a column is half a pixel wide");
   assert.strictEqual(path([2, -1], [2.1, 5]), "M2 5V5H9", "the first number of a column that begins without one");
   assert.strictEqual(path([0, 3], [2, -1], [2.1, 5]), "M0 3V3H2H2V5V5H9");
   assert.strictEqual(path([0, 3], [2, 4], [2.1, -1], [6, 1]), "M0 3V3H2H2V4M6 1V1H9");

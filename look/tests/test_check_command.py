@@ -256,6 +256,8 @@ def test_the_options():
         "quiet": True,
     }
     assert vars(command._arguments(words)) == given
+    twice = vars(command._arguments("/x --seed 1 --count 9 --seed 2 --quiet --quiet --count 8".split()))
+    assert (twice["seed"], twice["count"], twice["quiet"]) == (2, 8, True), "the last one counts"
     for wrong in (["/x", "/y"], [], ["/x", "--see", "1"], ["/x", "--seed"], ["/x", "--seed", "one"], ["/x", "--wrong"]):
         with pytest.raises(SystemExit) as ended:
             command._arguments(wrong)

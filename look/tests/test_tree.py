@@ -28,6 +28,11 @@ def node(name="g", processes=(), below=(), **numbers):
         (0, 10, 0, "[          ]"),
         (1, 10, 1, "[█|        ]"),
         (1, 10, 9, "[█        |]"),
+        # parts of an eighth and of a place are left out
+        (1, 3, None, "[███▎      ]"),
+        (2, 7, None, "[██▊       ]"),
+        (0, 3, 2, "[      |   ]"),
+        (0, 7, 6, "[        | ]"),
         (1, 10, 10, "[█         ]"),
         (5, 10, 5, "[█████|    ]"),
         (10, 10, 10, "[██████████]"),
@@ -199,6 +204,11 @@ def test_the_groups_of_a_directory(tmp_path):
         ([], None),
         (["-x", "d"], None),
         (["d", "--watch", "1.2.3"], None),
+        (["--watch", "2", "d", "--watch", "3"], ("d", 3.0)),  # the last one counts
+        (["--watch", "2", "d", "--watch"], ("d", 0.5)),
+        (["d", "--watch", "."], None),
+        (["--watch", ".5", "d"], ("d", 0.5)),
+        (["--watch", "0.0", "d"], None),
     ],
 )
 def test_the_words_of_tree(words, wanted):
@@ -385,6 +395,76 @@ def test_what_ends_a_tree(tmp_path, monkeypatch, capsys, failure, status, said):
     (tmp_path / "cgroup.procs").write_text("")
     monkeypatch.setattr(tree, "watch", fails)
     assert tree.main([str(tmp_path), "--watch"]) == status and capsys.readouterr() == ("", said)
+
+
+@pytest.mark.parametrize(
+    "terminal, words, coloured",
+    [
+        (True, {"TERM": "xterm"}, True),
+        (True, {}, True),
+        (True, {"TERM": "xterm", "NO_COLOR": ""}, True),  # an empty text says nothing
+        (True, {"TERM": "xterm", "NO_COLOR": "0"}, False),
+        (True, {"TERM": "dumb"}, False),
+        (False, {"TERM": "xterm"}, False),
+    ],
+)
+def test_when_a_tree_is_coloured(monkeypatch, terminal, words, coloured):
+    for name in ("TERM", "NO_COLOR"):
+        monkeypatch.delenv(name, raising=False)
+    for name, word in words.items():
+        monkeypatch.setenv(name, word)
+    assert tree.uses_colour(Screen(terminal)) == coloured
+
+
+@pytest.mark.parametrize(
+    "failure, why",
+    [
+        (PermissionError(13, "Permission denied"), "Permission denied"),
+        (FileNotFoundError(2, "No such file or directory"), "it has no cgroup.procs"),
+    ],
+)
+def test_why_a_directory_is_none_of_a_hierarchy(tmp_path, monkeypatch, capsys, failure, why):
+    if isinstance(failure, PermissionError):
+        (tmp_path / "cgroup.procs").write_text("")
+    failure.filename = str(tmp_path / "cgroup.procs")
+
+    def fails(*words):
+        raise failure
+
+    monkeypatch.setattr(tree.os, "open", fails)
+    assert tree.main([str(tmp_path)]) == 2
+    told = capsys.readouterr()
+    assert told == ("", f"makhloeum tree: {tmp_path} is not a cgroup2 directory: {why}\n")
+
+
+def test_the_title_of_a_page_is_the_name_of_its_trace(tmp_path, capsys):
+    """Not its folder, and without the letters of a tag."""
+    trace = tmp_path / "a<b>.trace"
+    trace.write_text("mkdir /a\n")
+    assert view.main([str(trace), "-o", str(tmp_path / "page")]) == 0
+    assert "<title>a&lt;b&gt;.trace</title>" in (tmp_path / "page").read_text()
+    assert capsys.readouterr().out == f"{tmp_path / 'page'}: 1 commands, 0 refused\n"
+
+
+@pytest.mark.parametrize("trace", ["", "\n", "# a comment\n", "  \t\r\n\n", "# at 5.0\n"])
+def test_a_page_of_no_command(tmp_path, capsys, trace):
+    """It is no page of something else than a trace."""
+    (tmp_path / "t").write_text(trace)
+    page = tmp_path / "t.html"
+    assert view.main([str(tmp_path / "t")]) == 0
+    assert capsys.readouterr() == (f"{page}: 0 commands, 0 refused\n", "") and page.read_text().startswith(
+        "<!DOCTYPE html>"
+    )
+
+
+def test_what_is_no_trace_is_no_page(tmp_path, capsys):
+    (tmp_path / "t").write_text("hello\nworld\n")
+    assert view.main([str(tmp_path / "t")]) == 1
+    assert capsys.readouterr() == ("", f"makhloeum view: no line of {tmp_path / 't'} is a command\n")
+    # one that is a command makes it a trace, also if it is refused
+    (tmp_path / "t").write_text("hello\nrmdir /\n")
+    assert view.main([str(tmp_path / "t")]) == 0
+    assert capsys.readouterr() == (f"{tmp_path / 't'}.html: 2 commands, 2 refused\n", "")
 
 
 def test_a_page_without_memory(tmp_path, monkeypatch, capsys):

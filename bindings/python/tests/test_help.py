@@ -43,35 +43,24 @@ def test_the_help_of_a_command(shell, name):
 
 def test_the_list_of_commands_says_how_one_learns_more(shell):
     shell.onecmd("help")
-    assert shell.stdout.getvalue().startswith(
-        "\nCommands (help COMMAND says more):\n====="
-    )
+    assert shell.stdout.getvalue().startswith("\nCommands (help COMMAND says more):\n=====")
     shell.stdout = io.StringIO()
     shell.onecmd("?")
-    assert shell.stdout.getvalue().startswith(
-        "\nCommands (help COMMAND says more):\n====="
-    )
+    assert shell.stdout.getvalue().startswith("\nCommands (help COMMAND says more):\n=====")
 
 
 def test_the_help_of_the_shell_names_the_commands_that_the_language_has_not(capsys):
     assert program.main(["--help"]) == 0
     told = " ".join(capsys.readouterr().out.split())
     listed = re.search(r"trace language, and: (.*?)\. Scripts", told)[1]
-    own = {
-        name: text.split(":")[0]
-        for name, text in COMMANDS.items()
-        if name not in OF_THE_LANGUAGE
-    }
+    own = {name: text.split(":")[0] for name, text in COMMANDS.items() if name not in OF_THE_LANGUAGE}
     assert {*listed.split(", ")} == {*own.values(), "help"}
     assert "python3 -m makhloeum view|tree|check" in told and set(program.COMMANDS) == {
         "view",
         "tree",
         "check",
     }
-    assert (
-        "`-` is standard input" in told
-        and "The status is 1 if a script's command failed" in told
-    )
+    assert "`-` is standard input" in told and "The status is 1 if a script's command failed" in told
 
 
 def test_options_are_the_first_word_alone(capsys, tmp_path, monkeypatch):
@@ -80,15 +69,9 @@ def test_options_are_the_first_word_alone(capsys, tmp_path, monkeypatch):
     (tmp_path / "script").write_text("where 1\n")
     for word in ("--help", "-h", "--version"):
         assert program.main(["script", word]) == 1
-        assert (
-            capsys.readouterr().err
-            == f"makhloeum: [Errno 2] No such file or directory: '{word}'\n"
-        )
+        assert capsys.readouterr().err == f"makhloeum: [Errno 2] No such file or directory: '{word}'\n"
     assert program.main(["--version", "script"]) == 1
-    assert (
-        capsys.readouterr().err
-        == "makhloeum: [Errno 2] No such file or directory: '--version'\n"
-    )
+    assert capsys.readouterr().err == "makhloeum: [Errno 2] No such file or directory: '--version'\n"
 
 
 # ---- lines
@@ -114,11 +97,7 @@ def test_a_script_that_quits_ends_itself_alone(shell, tmp_path):
         "a",
         "c",
     ]
-    assert (
-        shell.answer_file(str(inner)) is True
-        and shell.h.children("/") == ["a", "c"]
-        and shell.failed
-    )
+    assert shell.answer_file(str(inner)) is True and shell.h.children("/") == ["a", "c"] and shell.failed
 
 
 def test_the_reading_of_lines(shell, monkeypatch):
@@ -134,9 +113,7 @@ def test_the_reading_of_lines(shell, monkeypatch):
 
     monkeypatch.setattr(builtins, "input", typed)
     shell.loop("Welcome.")
-    assert (
-        prompts == ["makhloeum> "] * 4 and shell.stdout.getvalue() == "Welcome.\n\n\n"
-    )
+    assert prompts == ["makhloeum> "] * 4 and shell.stdout.getvalue() == "Welcome.\n\n\n"
     assert shell.h.children("/") == ["a", "b"]
 
 
@@ -167,13 +144,8 @@ def help_of(module, capsys, word):
 @pytest.mark.parametrize("word", ["--help", "-h"])
 def test_the_help_of_tree(capsys, word):
     told = help_of(tree, capsys, word)
-    assert told.startswith(
-        "makhloeum tree DIR [--watch [SECONDS]] Shows the groups below DIR"
-    )
-    assert (
-        f"looks every SECONDS ({tree._words(['d', '--watch'])[1]}) for the others"
-        in told
-    )
+    assert told.startswith("makhloeum tree DIR [--watch [SECONDS]] Shows the groups below DIR")
+    assert f"looks every SECONDS ({tree._words(['d', '--watch'])[1]}) for the others" in told
     # in the order of the columns
     assert (
         "pids.current of pids.max as a bar with the peak, refused forks here and with those below, and its processes"
@@ -185,18 +157,10 @@ def test_the_help_of_tree(capsys, word):
 @pytest.mark.parametrize("word", ["--help", "-h"])
 def test_the_help_of_view(capsys, word):
     told = help_of(view, capsys, word)
-    assert told.startswith(
-        "makhloeum view TRACE [-o PAGE.html] Makes one page of a run"
-    )
-    assert (
-        view._words(["TRACE"])[1] == "TRACE.html"
-        and "The page is TRACE.html unless -o names another" in told
-    )
+    assert told.startswith("makhloeum view TRACE [-o PAGE.html] Makes one page of a run")
+    assert view._words(["TRACE"])[1] == "TRACE.html" and "The page is TRACE.html unless -o names another" in told
     assert view._words(["-"]) == ("-", "-") and "`-` is standard input" in told
-    assert (
-        view._words(["TRACE", "-o", "-"])[1] == "-"
-        and "`-o -` is standard output" in told
-    )
+    assert view._words(["TRACE", "-o", "-"])[1] == "-" and "`-o -` is standard output" in told
 
 
 @pytest.mark.parametrize("module", [tree, view])

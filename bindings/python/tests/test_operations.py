@@ -1,16 +1,16 @@
 """What an error of each method says: the operation with its words, the path that it is about, and the reply; whatever the words are."""
 
 import errno
+import os
 import pathlib
 
 import pytest
 
 import makhloeum
 from makhloeum import Hierarchy, Refused
+from makhloeum._library import WOULD_BLOCK, library, patient
 
-LARGE = (
-    1 << 64
-)  # from here on a number is shown in hexadecimal, as Python writes no long one in decimal
+LARGE = 1 << 64  # from here on a number is shown in hexadecimal, as Python writes no long one in decimal
 GIVEN = {"text": str, "bytes": str.encode, "path": pathlib.PurePosixPath}
 
 
@@ -258,10 +258,7 @@ def test_the_error_of_a_file_among_many(h, given):
 
 def test_a_refusal_without_a_command_begins_with_its_errno():
     refused = makhloeum.Busy("rootfixed")
-    assert (
-        str(refused) == "Device or resource busy (rootfixed)"
-        and refused.errno == errno.EBUSY
-    )
+    assert str(refused) == "Device or resource busy (rootfixed)" and refused.errno == errno.EBUSY
     assert (refused.command, refused.filename, refused.code) == ("", None, 0)
 
 
@@ -280,10 +277,7 @@ def test_a_fault_that_was_asked_for_names_the_call_and_the_path(h, given):
         with pytest.raises(OSError) as failed:
             call()
         assert (failed.value.errno, failed.value.filename) == (errno.ENOSPC, "/a")
-        assert (
-            failed.value.strerror
-            == f"No space left on device (asked for by fail, at {command})"
-        )
+        assert failed.value.strerror == f"No space left on device (asked for by fail, at {command})"
 
 
 # ---- arguments of faults
@@ -302,9 +296,7 @@ def test_which_call_fails_is_a_number_from_1_on(h, nth):
         (lambda: h.fail("/a", error=5, nth=nth), "fail"),
         (lambda: h.vanish("/a", nth=nth), "vanish"),
     ):
-        with pytest.raises(
-            ValueError, match=f"^{name} /a: nth is 1 for the next call, not {nth}$"
-        ):
+        with pytest.raises(ValueError, match=f"^{name} /a: nth is 1 for the next call, not {nth}$"):
             call()
     assert h.clear_faults() == 0
 
@@ -321,9 +313,7 @@ def test_the_largest_numbers_of_a_fault(h):
 
 
 def test_an_nth_that_is_given_twice_is_no_nth(h):
-    with pytest.warns(DeprecationWarning), pytest.raises(
-        TypeError, match="^fail: a path, one error and one nth$"
-    ):
+    with pytest.warns(DeprecationWarning), pytest.raises(TypeError, match="^fail: a path, one error and one nth$"):
         h.fail("/a", errno.EIO, 2, nth=3)
     assert h.clear_faults() == 0
 
@@ -347,13 +337,7 @@ def test_lines_that_show_nothing(h):
 
 
 def test_how_many_commands_were_undone(h):
-    assert (
-        h.undo_to(4) == 1
-        and h.undo_to(4) == 0
-        and h.reset() == 4
-        and h.reset() == 0
-        and h.depth() == 0
-    )
+    assert h.undo_to(4) == 1 and h.undo_to(4) == 0 and h.reset() == 4 and h.reset() == 0 and h.depth() == 0
 
 
 def test_a_block_that_an_error_ends_closes_its_hierarchy():
@@ -369,3 +353,60 @@ def test_an_unclosed_hierarchy_is_named():
     with pytest.warns(ResourceWarning) as told:
         del h
     assert [str(it.message) for it in told] == [f"unclosed {shown}"]
+
+
+# ---- words that are left out, and calls that are made again
+
+
+def test_a_mount_is_that_of_the_system_without_a_path():
+    with makhloeum.mounted_at() as h:
+        os.mkdir("/sys/fs/cgroup/a")
+        assert h.groups() == ["/", "/a"] and os.listdir("/sys/fs/cgroup")[-1] == "a"
+        with open("/sys/fs/cgroup/a/cgroup.procs", "w") as file:
+            file.write("0")
+        assert h.processes("/a") == [1], "the caller is process 1"
+    assert h.closed
+
+
+@pytest.mark.parametrize("pid", [0, -1, 1 << 63])
+def test_a_caller_that_is_no_process_is_named(pid):
+    with pytest.raises(ValueError, match=f"^mounted_at: {pid} is not a pid$"):
+        makhloeum.mounted_at("/sys/fs/cgroup", pid=pid).__enter__()
+
+
+def test_a_value_of_another_type_is_named(h):
+    for wrong, kind in (
+        (None, "NoneType"),
+        (5.0, "float"),
+        (True, "bool"),
+        ([], "list"),
+    ):
+        with pytest.raises(
+            TypeError,
+            match=f"^a value is a str, bytes or an int, not {kind}; no limit is 'max'$",
+        ):
+            h.write("/a", "pids.max", wrong)
+
+
+@pytest.mark.parametrize("name, call", [("mk_children", "children"), ("mk_words", "read")])
+def test_a_call_is_made_again_where_it_would_wait(h, monkeypatch, name, call):
+    """At first the buffer is too small, and then another thread's call is running: the patient call has the larger buffer."""
+    names = [f"a-group-with-a-name-of-more-than-thirty-letters-{number}" for number in range(30)]
+    for it in names:
+        h.mkdir(f"/a/b/{it}")
+    h.write(f"/a/b/{names[0]}", "cgroup.procs", 1)
+    real, sizes = getattr(library, name), []
+
+    def busy_at_last(*words):
+        sizes.append(words[-2])
+        return real(*words) if len(sizes) == 1 else WOULD_BLOCK
+
+    patient_call = getattr(patient, name)
+    monkeypatch.setattr(library, name, busy_at_last)
+    monkeypatch.setattr(patient, name, lambda *words: sizes.append(-words[-2]) or patient_call(*words))
+    if call == "children":
+        assert h.children("/a/b") == sorted(names)
+        assert len(sizes) == 3 and sizes[0] < sizes[1] == -sizes[2]
+    else:
+        assert h.read("/a", "pids.max") == "1\n" and sizes == [sizes[0]]
+        assert h.read("/a", "pids.max") == "1\n" and sizes[1] == sizes[0] == -sizes[2]

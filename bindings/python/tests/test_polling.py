@@ -1,10 +1,13 @@
 """poll, select and epoll wait for changes of files under mounted_at, as on a mount."""
 
+import errno
 import faulthandler
+import gc
 import os
 import select
 import shutil
 import signal
+import socket
 import threading
 import time
 from os import read as early_read
@@ -13,7 +16,8 @@ from os import write as early_write
 import pytest
 from open_files import open_files
 
-from makhloeum import PidsMax, mounted_at
+from makhloeum import PidsMax, _notify, mounted_at
+from makhloeum._calls import CALLS
 
 AT = "/sys/fs/cgroup"
 PATIENCE = 300_000  # milliseconds
@@ -170,6 +174,61 @@ def test_nothing_is_left_of_it(hierarchy):
             os.rmdir(f"{AT}/n")
         os.close(fd)
     assert not open_files() - before and not set(threading.enumerate()) - threads
+
+
+def test_nothing_is_kept_of_files_that_are_closed(hierarchy):
+    """Neither by the table of descriptors, nor by what looks at open files."""
+    hierarchy.mkdir("/a")
+    with mounted_at(AT, hierarchy):
+        (_, tree), *_ = CALLS._mounts
+        for _ in range(20):
+            for name in ("cgroup.events", "pids.max"):
+                fd = os.open(f"{AT}/a/{name}", os.O_RDONLY)
+                copy = os.dup(fd)
+                os.read(copy, 9)
+                os.close(fd)
+                os.close(copy)
+                with open(f"{AT}/a/{name}") as file:
+                    file.read()
+                with pytest.raises(OSError):
+                    open(f"{AT}/a/{name}", "x")
+            os.close(os.open(f"{AT}/a", os.O_RDONLY))
+        del file
+        gc.collect()
+        assert CALLS.descriptors._opened == {} and tree._opened == set() and tree.watch._pollers == set()
+        fd = os.open(f"{AT}/a/cgroup.events", os.O_RDONLY)
+        assert list(CALLS.descriptors._opened) == [fd] and len(tree._opened) == len(tree.watch._pollers) == 1
+    os.close(fd)
+    assert CALLS._mounts == [] and CALLS.descriptors._opened == {}
+
+
+def test_a_kernel_without_bytes_out_of_band(hierarchy, monkeypatch):
+    """The file can be read, but not polled, and no socket stays open."""
+    real = socket.socketpair
+
+    class Socket:
+        """One that can't send."""
+
+        def __init__(self, it):
+            self.it = it
+
+        def send(self, *words):
+            raise OSError(errno.EOPNOTSUPP, "")
+
+        def __getattr__(self, name):
+            return getattr(self.it, name)
+
+    monkeypatch.setattr(_notify.socket, "socketpair", lambda: tuple(map(Socket, real())))
+    with mounted_at(AT, hierarchy):
+        os.mkdir(f"{AT}/a")
+        before = open_files()
+        fd = os.open(f"{AT}/a/cgroup.events", os.O_RDONLY)
+        assert os.read(fd, 99) == b"populated 0\nfrozen 0\n" and len(open_files() - before) == 1
+        poller = select.poll()
+        poller.register(fd, select.POLLPRI)
+        assert poller.poll(0) == [(fd, select.POLLNVAL)]
+        os.close(fd)
+        assert not open_files() - before
 
 
 # ---- ends

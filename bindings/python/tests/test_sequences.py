@@ -134,9 +134,7 @@ def test_a_child_is_moved_at_once(played):
     moved = [
         first for first, second in pairs if second[2:] == ["cgroup.procs", first[2]]
     ]
-    assert 0.1 < len(moved) / len(pairs) < 0.7 and all(
-        first[1] == "1" for first in moved if first[1] == "1"
-    )
+    assert 0.33 < len(moved) / len(pairs) < 0.5
     others = [first for first, _ in pairs if first[1] != "1"]
     assert len(others) > len(pairs) / 4, "processes other than the first fork too"
 

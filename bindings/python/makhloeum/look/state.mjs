@@ -278,14 +278,14 @@ export class Run {
 
   // The groups that a reader would ask about first: those that refused forks, then those with most arrivals.
   busiest(count) {
-    const score = new Map(), add = (id, by) => id && score.set(id, (score.get(id) || 0) + by);
+    const scores = new Map(), score = (id) => scores.get(id) ?? scores.set(id, { id, refused: 0, arrived: 0 }).get(id);
     for (let command = 0; command < this.length; command++) {
       this.each(command, (kind, a, b) => {
-        if (kind === BORN || kind === MOVE) add(b, 1);
-        else if (kind === ADD && a === LOCAL) add(b, 1000);
+        if ((kind === BORN || kind === MOVE) && b) score(b).arrived++;
+        else if (kind === ADD && a === LOCAL && b) score(b).refused++;
       });
     }
-    return [...score].sort((a, b) => b[1] - a[1] || a[0] - b[0]).slice(0, count).map(([id]) => id);
+    return [...scores.values()].sort((a, b) => b.refused - a.refused || b.arrived - a.arrived || a.id - b.id).slice(0, count).map(({ id }) => id);
   }
 }
 
