@@ -148,21 +148,16 @@ def test_a_line_that_was_refused_otherwise_changes_nothing():
         ("cat /a pids.max", "ok\n| max"),
     ):
         it.play(line.split(), reply)
-    assert it.home == {"1": "/", "2": "/a/b/d"} and it.peak_by_way(
-        "/a"
-    ) == dict.fromkeys((PLAIN, REFUSED, MOVED, BOTH), 1)
+    assert it.home == {"1": "/", "2": "/a/b/d"} and it.peak_by_way("/a") == dict.fromkeys(
+        (PLAIN, REFUSED, MOVED, BOTH), 1
+    )
     assert sum(it.events.total.values()) == sum(it.events.own.values()) == 0
 
 
 def test_where_a_refused_fork_is_counted():
     """By the guide at the group whose limit it was and those above; before Linux 6.11 at the group of the process alone."""
-    it = followed(
-        *MADE, "fork 2 3 ! /a/b", "fork 2 3 ! /a", "fork 1 3 ! /x", "mkdir /x/y"
-    )
-    assert {
-        path: it.events.total[path]
-        for path in ("/a", "/a/b", "/a/b/d", "/a/c", "/x", "/x/y")
-    } == {
+    it = followed(*MADE, "fork 2 3 ! /a/b", "fork 2 3 ! /a", "fork 1 3 ! /x", "mkdir /x/y")
+    assert {path: it.events.total[path] for path in ("/a", "/a/b", "/a/b/d", "/a/c", "/x", "/x/y")} == {
         "/a": 2,
         "/a/b": 1,
         "/a/b/d": 0,
@@ -190,16 +185,9 @@ def test_the_name_of_a_difference_between_two_peaks():
     }
     for kernel, name in wanted.items():
         assert peak_difference(kernel, 1, by_way) == name
-        assert (
-            peak_difference(kernel, 2, by_way) is None
-        ), "ours is not what the guide says"
-    assert (
-        peak_difference(2, 1, {PLAIN: 1, REFUSED: 2, MOVED: 2, BOTH: 2})
-        == REFUSED_RAISES
-    ), "the plainest"
-    assert (
-        peak_difference(3, 1, {PLAIN: 1, REFUSED: 1, MOVED: 3, BOTH: 3}) == MOVE_RAISES
-    )
+        assert peak_difference(kernel, 2, by_way) is None, "ours is not what the guide says"
+    assert peak_difference(2, 1, {PLAIN: 1, REFUSED: 2, MOVED: 2, BOTH: 2}) == REFUSED_RAISES, "the plainest"
+    assert peak_difference(3, 1, {PLAIN: 1, REFUSED: 1, MOVED: 3, BOTH: 3}) == MOVE_RAISES
 
 
 @pytest.mark.parametrize(
@@ -244,20 +232,12 @@ def test_a_number_as_the_kernel_reads_it(text, number):
 
 
 def test_the_groups_upward():
-    assert list(known.upward("/a/b/c")) == ["/a/b/c", "/a/b", "/a"] and list(
-        known.upward("/a")
-    ) == ["/a"]
+    assert list(known.upward("/a/b/c")) == ["/a/b/c", "/a/b", "/a"] and list(known.upward("/a")) == ["/a"]
     assert list(known.upward("/")) == list(known.upward("")) == []
 
 
 def test_each_known_difference_has_a_sentence_of_its_own():
-    names = [
-        value
-        for name, value in vars(known).items()
-        if re.fullmatch("[A-Z_]+", name) and isinstance(value, str)
-    ]
-    assert len(names) == len(set(names)) == 18 and all(
-        len(name.split()) > 3 for name in names
-    )
+    names = [value for name, value in vars(known).items() if re.fullmatch("[A-Z_]+", name) and isinstance(value, str)]
+    assert len(names) == len(set(names)) == 18 and all(len(name.split()) > 3 for name in names)
     before = [name for name in names if name.startswith("before Linux 6.11")]
     assert set(before) == {known.OLD_EVENTS, known.OLD_LOCAL, known.OLD_WHICH}

@@ -38,9 +38,7 @@ def sequence(number, seed=5):
 
 @pytest.fixture(scope="module")
 def played():
-    return [
-        sequence(number) for number in range(500)
-    ]  # the rarest words come ten times on average
+    return [sequence(number) for number in range(500)]  # the rarest words come ten times on average
 
 
 # what a sequence should do sooner or later: a command by its first word, the end of its path, its file and its value
@@ -68,16 +66,11 @@ LIMITS = {
         for value in ("0", "1", "2", "3", "max")
     ),
 }
-REREAD = {
-    ("reread", file)
-    for file in ("cgroup.procs", "cgroup.stat", "pids.current", "pids.max")
-}
+REREAD = {("reread", file) for file in ("cgroup.procs", "cgroup.stat", "pids.current", "pids.max")}
 
 
 def test_each_kind_of_command_is_played(played):
-    kinds = collections.Counter(
-        words[0] for commands, *_ in played for words in commands
-    )
+    kinds = collections.Counter(words[0] for commands, *_ in played for words in commands)
     assert set(kinds) == {
         *(
             "mkdir",
@@ -93,19 +86,9 @@ def test_each_kind_of_command_is_played(played):
             "where",
         )
     }
-    assert (
-        kinds["cat"] > kinds["reread"] > kinds["where"]
-        and kinds["mkdir"] > kinds["rmdir"]
-    )
-    files = {
-        (words[0], *words[2:])
-        for commands, *_ in played
-        for words in commands
-        if len(words) > 2
-    }
-    assert (
-        WRONG - files == set() and LIMITS - files == set() and REREAD - files == set()
-    )
+    assert kinds["cat"] > kinds["reread"] > kinds["where"] and kinds["mkdir"] > kinds["rmdir"]
+    files = {(words[0], *words[2:]) for commands, *_ in played for words in commands if len(words) > 2}
+    assert WRONG - files == set() and LIMITS - files == set() and REREAD - files == set()
     assert {("cat", name) for name in READABLE} - files == set()
     assert {it for it in files if it[0] == "reread"} == REREAD
 
@@ -116,24 +99,14 @@ def test_commands_about_what_is_not_there(played):
         assert any(words[0] == kind and words[1] == "/nope" for words in all_), kind
     assert any(words[2:] == ["cgroup.procs", "4000000"] for words in all_)
     assert any(words[:2] == ["list", "/"] for words in all_) and any(
-        words == ["write", "/", "cgroup.procs", pid]
-        for words in all_
-        for pid in words[3:]
-        if pid != "4000000"
+        words == ["write", "/", "cgroup.procs", pid] for words in all_ for pid in words[3:] if pid != "4000000"
     )
 
 
 def test_a_child_is_moved_at_once(played):
     """As a container's is: by the next command, to another group than its parent's, in a part of all forks."""
-    pairs = [
-        pair
-        for commands, *_ in played
-        for pair in zip(commands, commands[1:])
-        if pair[0][0] == "fork"
-    ]
-    moved = [
-        first for first, second in pairs if second[2:] == ["cgroup.procs", first[2]]
-    ]
+    pairs = [pair for commands, *_ in played for pair in zip(commands, commands[1:]) if pair[0][0] == "fork"]
+    moved = [first for first, second in pairs if second[2:] == ["cgroup.procs", first[2]]]
     assert 0.33 < len(moved) / len(pairs) < 0.5
     others = [first for first, _ in pairs if first[1] != "1"]
     assert len(others) > len(pairs) / 4, "processes other than the first fork too"
@@ -155,9 +128,7 @@ def test_at_the_end_everything_is_read(played):
         assert 1 <= len(commands) and len(groups) <= sequences.GROUPS_AT_MOST + 8
         reads = {(words[1], words[2]) for words in last if words[0] == "cat"}
         assert reads == {
-            (group, name)
-            for group in groups
-            for name in (ON_ROOT if group == "/" else READABLE)
+            (group, name) for group in groups for name in (ON_ROOT if group == "/" else READABLE)
         }, "every file of every group"
         assert [words[1] for words in last if words[0] == "list"] == groups
         assert sorted(words[1] for words in last if words[0] == "told") == watched
@@ -189,19 +160,13 @@ class Shown:
     def __call__(self, commands):
         self.tried.append(commands)
         at = iter(commands)
-        return (
-            self.found(commands)
-            if all(any(words == it for it in at) for words in self.needed)
-            else None
-        )
+        return self.found(commands) if all(any(words == it for it in at) for words in self.needed) else None
 
 
 def shortened(commands, needed, seconds=3600.0, **how):
     shown = Shown(needed, **how)
     return (
-        shorten.shorten(
-            shown.found([words.split() for words in commands]), shown, seconds
-        ),
+        shorten.shorten(shown.found([words.split() for words in commands]), shown, seconds),
         shown,
     )
 
@@ -220,9 +185,7 @@ def test_what_is_not_needed_is_left_out(count):
 def test_what_does_not_show_again_stays_as_it_was():
     commands = ["mkdir /a", "mkdir /b", "rmdir /a"]
     short, shown = shortened(commands, ["no such command"])
-    assert short.played == [words.split() for words in commands] and shown.tried == [
-        short.played
-    ], "it is tried once"
+    assert short.played == [words.split() for words in commands] and shown.tried == [short.played], "it is tried once"
 
 
 def test_nothing_is_tried_without_time():
@@ -235,20 +198,14 @@ def test_the_time_ends_it(monkeypatch):
     """What was found until then is the answer."""
     now = [100.0]
     monkeypatch.setattr(shorten.time, "monotonic", lambda: now[0])
-    shown, commands = Shown(["rmdir /a"]), [
-        ["mkdir", f"/x{number}"] for number in range(64)
-    ] + [["rmdir", "/a"]]
+    shown, commands = Shown(["rmdir /a"]), [["mkdir", f"/x{number}"] for number in range(64)] + [["rmdir", "/a"]]
 
     def retry(tried):
         now[0] += 1
         return shown(tried)
 
     short = shorten.shorten(shown.found(commands), retry, 2)
-    assert (
-        len(shown.tried) == 2
-        and 1 < len(short.played) < len(commands)
-        and short.played[-1] == ["rmdir", "/a"]
-    )
+    assert len(shown.tried) == 2 and 1 < len(short.played) < len(commands) and short.played[-1] == ["rmdir", "/a"]
 
 
 @pytest.mark.parametrize("first, again", [("EINVAL", NO_ANSWER), (NO_ANSWER, "EINVAL")])
@@ -266,11 +223,7 @@ def test_forks_are_made_by_the_first_process():
     shown = Shown(["exit 2"])
 
     def retry(commands):
-        return (
-            shown(commands)
-            if any(words[0] == "fork" and words[2] == "2" for words in commands)
-            else None
-        )
+        return shown(commands) if any(words[0] == "fork" and words[2] == "2" for words in commands) else None
 
     short = shorten.shorten(
         shown.found([["fork", "1", "4"], ["fork", "4", "2"], ["exit", "2"]]),
@@ -284,9 +237,7 @@ def test_groups_lie_as_high_as_they_can():
     """Where no other group has that path; what lies below a group moves along."""
 
     def retry(commands):
-        return (
-            shown.found(commands) if [words[0] for words in commands] == kinds else None
-        )
+        return shown.found(commands) if [words[0] for words in commands] == kinds else None
 
     shown, kinds = Shown([]), ["mkdir", "write", "rmdir"]
     for given, wanted in (
@@ -307,7 +258,18 @@ def test_groups_lie_as_high_as_they_can():
             ["mkdir /b", "write /bb pids.max 5", "rmdir /b"],
         ),
     ):
-        short = shorten.shorten(
-            shown.found([words.split() for words in given]), retry, 3600
-        )
+        short = shorten.shorten(shown.found([words.split() for words in given]), retry, 3600)
         assert [" ".join(words) for words in short.played] == wanted
+
+
+def test_what_lies_below_a_group_moves_with_it():
+    """A sequence that shows the difference only with a group below another."""
+
+    def retry(commands):
+        made = next((words[1] for words in commands if words[0] == "mkdir"), None)
+        below = any(words[0] == "write" and made and words[1].startswith(made + "/") for words in commands)
+        return shown.found(commands) if below else None
+
+    shown, given = Shown([]), ["mkdir /a/b", "mkdir /a/b/c", "write /a/b/c pids.max 5"]
+    short = shorten.shorten(shown.found([words.split() for words in given]), retry, 3600)
+    assert [" ".join(words) for words in short.played] == ["mkdir /b", "write /b/c pids.max 5"]
