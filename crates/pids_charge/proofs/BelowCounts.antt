@@ -1,5 +1,5 @@
 -- How many groups are below a group, when one is made or removed.
-use Rattle.std.proofs.Common.{◌≡◌, ◌≢◌, ℕ, suc, ◌+◌, ◌-◌, ◌<◌, ◌≤◌, ◌&&◌, inl, inr, Bool, true, false, cond, not, ltb, List, [], ◌∷◌, length, map, take, count_by, Some, None, IsSome, refl, sym, ap, ◌∙◌, subst, arith}
+use Rattle.std.proofs.Common.{◌≡◌, ◌≢◌, ℕ, ◌+◌, ◌-◌, ◌<◌, ◌≤◌, ◌&&◌, inl, inr, Bool, true, false, cond, not, ltb, List, [], ◌∷◌, length, map, take, count_by, Some, None, IsSome, refl, sym, ap, ◌∙◌, subst, arith}
 use Rattle.std.proofs.lemmas.Bool.{cases_lt, false≢true}
 use Rattle.std.proofs.lemmas.Bool.Decides.{nat_tests}
 use Rattle.std.proofs.lemmas.List.{length-map, length-take-le}
@@ -11,7 +11,6 @@ use Rattle.std.specs.Ordering.{is_eq}
 use Rattle.std.specs.FinMap as fin
 use Rattle.std.specs.FinMap.Entries.{put, by_order}
 use Rattle.flat_model.specs.Path.{Path, path_cmp, parent, at_or_below, strictly_below, same_path}
-use Rattle.flat_model.specs.Mapped.{map_values}
 use Rattle.flat_model.proofs.Maps.{insert_remove}
 use Rattle.flat_model.proofs.MapValues.{keys-map_values}
 use Rattle.flat_model.proofs.PathLaws.{path_cmp-IsTotalOrder, path_cmp-IsAntisymmetric, at_or_below_either, at_or_below_itself, at_or_below_length, at_or_below_take, at_or_below_through, parent_above, same_path_is, same_path_itself}

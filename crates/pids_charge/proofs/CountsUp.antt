@@ -1,22 +1,21 @@
 -- How many groups are below each group, in the rows: a walk from a group up to the root changes one number at each.
-use Rattle.std.proofs.Common.{◌≡◌, ◌≢◌, ℕ, zero, suc, ◌+◌, ◌-◌, ◌^◌, ◌<◌, ◌≤◌, inl, inr, Bool, true, false, cond, Some, None, IsSome, List, [], ◌∷◌, length, get_or, min, count_by, refl, sym, ap, ◌∙◌, subst, arith}
+use Rattle.std.proofs.Common.{◌≡◌, ℕ, zero, suc, ◌+◌, ◌-◌, ◌^◌, ◌<◌, ◌≤◌, inl, inr, Bool, true, false, cond, Some, None, IsSome, List, [], ◌∷◌, length, get_or, count_by, refl, sym, ap, ◌∙◌, subst, arith}
 use Rattle.std.proofs.lemmas.Bool.{false≢true}
 use Rattle.std.proofs.lemmas.List.{get_or-set_other, length-set, length-take-le}
 use Rattle.std.proofs.lemmas.Grind.{get_or-set_at}
 use Rattle.std.proofs.Math.ListN.{set}
 use Rattle.std.proofs.Math.Nat.{min-eq_left}
-use Rattle.std.specs.Ordering.{eq_by_cmp}
 use Rattle.std.specs.FinMap as fin
 use Rattle.flat_model.specs.Path.{Path, parent, path_cmp, at_or_below, strictly_below, same_path}
 use Rattle.flat_model.proofs.MapValues.{keys-map_values}
-use Rattle.flat_model.proofs.PathLaws.{path_cmp-IsTotalOrder, at_or_below_itself, at_or_below_length, same_path_is, same_path_itself}
+use Rattle.flat_model.proofs.PathLaws.{at_or_below_itself, same_path_is}
 use Rattle.group_tree.specs.Groups.{Groups, IsClosed, descendant_count, only_root}
 use Rattle.group_tree.specs.declared.attr.Attr.{Attr}
 use Rattle.pids_charge.specs.GroupRows.{HasCounts, HasParents, HasRows, HasWay, in_row, lowered, raised, stepped_up, with_rows}
 use Rattle.pids_charge.specs.Lists.{table_slot}
 use Rattle.pids_charge.proofs.BelowCounts.{above_parent, below_few, below_left, below_made, below_own, not_above, not_itself, strictly_above}
 use Rattle.pids_charge.proofs.Changes.{which}
-use Rattle.pids_charge.proofs.InRows.{closed_rows, there_too, tree_has}
+use Rattle.pids_charge.proofs.InRows.{there_too, tree_has}
 use Rattle.pids_charge.proofs.ParentSteps.{own_slot}
 use Rattle.pids_charge.proofs.StartState.{alone}
 

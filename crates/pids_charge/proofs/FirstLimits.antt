@@ -1,7 +1,7 @@
 -- The walk from the parent of a new group upward to the first limit that it meets.
-use Rattle.std.proofs.Common.{◌≡◌, ℕ, zero, suc, ◌+◌, ◌-◌, ◌<◌, ◌≤◌, Bool, true, false, cond, Option, Some, None, IfSome, List, [], ◌∷◌, length, take, drop, get_or, option_map, refl, sym, ap, ◌∙◌, subst, arith}
+use Rattle.std.proofs.Common.{◌≡◌, ℕ, zero, suc, ◌-◌, ◌<◌, ◌≤◌, Bool, true, false, cond, Option, Some, None, IfSome, [], ◌∷◌, length, take, drop, option_map, refl, sym, ap, ◌∙◌, subst, arith}
 use Rattle.std.proofs.lemmas.List.{drop_all, length-take-le}
-use Rattle.std.proofs.Math.Seq.{drop-cons, take-length}
+use Rattle.std.proofs.Math.Seq.{drop-cons}
 use Rattle.std.specs.Option.{option_or}
 use Rattle.std.specs.FinMap as fin
 use Rattle.flat_model.specs.Path.{Path, parent, upward}
@@ -19,7 +19,6 @@ use Rattle.group_tree.specs.declared.attr.Attr.{Attr}
 use Rattle.group_tree.proofs.Flat.{same_count}
 use Rattle.pids_charge.specs.Events.{flat_of}
 use Rattle.pids_charge.specs.HierarchyLimits.{IsFirstMet, met_here, names_of, refusal_along}
-use Rattle.pids_charge.specs.Lists.{table_slot}
 use Rattle.pids_charge.specs.declared.hierarchy.MetLimit.{MetLimit}
 use Rattle.pids_charge.specs.declared.hierarchy.MetLimit.TheVariants.{Descendants, Depth}
 

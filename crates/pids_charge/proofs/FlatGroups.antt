@@ -1,5 +1,5 @@
 -- What the tree says of the flat state's groups, and what refuses a kill.
-use Rattle.std.proofs.Common.{◌≡◌, ◌&&◌, ℕ, ◌-◌, ◌^◌, ◌<◌, ◌≤◌, ltb, Bool, true, false, not, cond, Option, Some, None, Result, Ok, Err}
+use Rattle.std.proofs.Common.{◌≡◌, ◌&&◌, ℕ, ◌-◌, ◌<◌, ◌≤◌, ltb, Bool, true, false, not, cond, Option, Some, None, Result, Ok, Err}
 use Rattle.std.proofs.Common.{List, [], ◌∷◌, length, take, IsSome, is_some, option_copied, Bor, refl, sym, ap, ◌∙◌, subst, arith}
 use Rattle.std.specs.Option.{option_map, option_or}
 use Rattle.std.specs.FinMap as fin
@@ -14,7 +14,7 @@ use Rattle.flat_model.proofs.PathLaws.{path_cmp-IsTotalOrder, path_cmp-IsAntisym
 use Rattle.group_tree.specs.declared.fault.TreeFault.{TreeFault}
 use Rattle.flat_model.specs.Counts.{is_group, has_process}
 use Rattle.flat_model.specs.Inverse.{back, Exited}
-use Rattle.flat_model.specs.Command.{Kill, Move, MakeGroup, Refusal, NoGroup, NoProcess, Exists, NoSlot}
+use Rattle.flat_model.specs.Command.{Kill, Move, MakeGroup, Refusal, NoGroup, NoProcess, NoFile, Exists, NoSlot}
 use Rattle.std.proofs.lemmas.Bool.Decides.{nat_tests}
 use Rattle.flat_model.specs.Step.{refusal, after, blocked_make, limit_met, first_refusal}
 use Rattle.std.specs.Ordering.{nat_cmp}
@@ -196,6 +196,14 @@ module _ (slots : ℕ) (s : State) (p : Path) where
 
   pub kill_allowed : 0 < length p → is_group s p ≡ true → refusal slots s (Kill p) ≡ None
   kill_allowed h i = rw (nonroot p h, i) refl
+
+  pub killed_group : refusal slots s (Kill p) ≡ None → is_group s p ≡ true
+  killed_group e = by (is_root p) (is_group s p) e
+    where
+      by : (a b : Bool) → refuse a NoFile (refuse (not b) (NoGroup p) None) ≡ None → b ≡ true
+      by true b e = cc
+      by false true e = refl
+      by false false e = cc
 
   pub move_no_group : (pid n : ℕ) → is_group s p ≡ false → n ≡ length p → refusal slots s (Move p pid) ≡ Some (NoGroup (take n p))
   move_no_group pid n i e = rw (i, e, take-length p) refl

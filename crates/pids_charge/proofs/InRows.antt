@@ -152,6 +152,13 @@ module _ (tree : Groups) (rows : List Attr) (h : HasRows tree rows) (s : Groups)
       let slot : t.attr.slot ≡ at = (number_is p t.attr t.there).1 ∙ sym e in
       record { attr = t.attr; there = t.there; slot = slot; inside = let inside = (h.each p t.attr t.there).inside in omega (arith, slot, inside) }
 
+  -- no two groups have the same row
+  pub rows_apart : (p q : Path) → IsSome (fin.get s p) → IsSome (fin.get s q) → table_slot s p ≡ table_slot s q → p ≡ q
+  rows_apart p q i j e =
+      let a = row_is p (table_slot s p) i refl in
+      let b = row_is q (table_slot s q) j refl in
+      h.apart p q a.attr b.attr a.there b.there (a.slot ∙ e ∙ sym b.slot)
+
 -- ---- a row is replaced
 
 module _ (tree : Groups) (rows : List Attr) (h : HasRows tree rows) (s : Groups) (v : with_rows tree rows ≡ s) (at : ℕ) (y : Attr) (p : Path) (i : IsSome (fin.get s p)) (e : at ≡ table_slot s p) where

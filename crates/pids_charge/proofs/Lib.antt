@@ -28,6 +28,8 @@ mod InRows
 mod PathRows
 mod RowReads
 mod RowsUp
+mod RowWalks
+mod RowsInside
 mod GroupReads
 mod LimitWrites
 mod ProcessExits

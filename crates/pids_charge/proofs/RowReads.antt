@@ -1,5 +1,5 @@
 -- Groups whose attributes are in rows: what the tree alone says of them.
-use Rattle.std.proofs.Common.{◌≡◌, ℕ, inl, inr, true, Option, Some, None, IsSome, Result, Ok, Err, is_err, List, [], ◌∷◌, get_or, option_map, refl, sym, ap, ◌∙◌, subst, arith}
+use Rattle.std.proofs.Common.{◌≡◌, ℕ, inl, inr, true, Option, Some, None, IsSome, Result, Ok, Err, is_err, List, [], ◌∷◌, get_or, option_map, sym, ap, ◌∙◌, subst, arith}
 use Rattle.std.specs.FinMap as fin
 use Rattle.flat_model.specs.Path.{Name, Path, path_cmp}
 use Rattle.flat_model.specs.Mapped.{map_values}

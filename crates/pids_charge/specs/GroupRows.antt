@@ -60,19 +60,19 @@ pub record HasTable (tree : Groups) (rows : List Group) (kept : List (Option Pat
 
 -- n steps lead from a row up to the root's
 abbrev pub HasWay : List ℕ → ℕ → ℕ → Type 0
-HasWay ups row zero = (row ≡ 0) × (row < length ups)
-HasWay ups row (suc n) = (0 < row) × (row < length ups) × HasWay ups (get_or ups row 0) n
+HasWay ups at zero = (at ≡ 0) × (at < length ups)
+HasWay ups at (suc n) = (0 < at) × (at < length ups) × HasWay ups (get_or ups at 0) n
 
 -- no more steps than a path has names
-pub record IsWay (ups : List ℕ) (row : ℕ) : Type 0 where
+pub record IsWay (ups : List ℕ) (at : ℕ) : Type 0 where
   pub steps : ℕ
   pub few : steps ≤ 32
-  pub way : HasWay ups row steps
+  pub way : HasWay ups at steps
 
 -- the counts in the rows on such a way, changed by g
 abbrev pub stepped_up : (ℕ → ℕ) → List ℕ → ℕ → ℕ → List ℕ → List ℕ
-stepped_up g ups row zero belows = slice_set belows row (g (get_or belows row 0))
-stepped_up g ups row (suc n) belows = stepped_up g ups (get_or ups row 0) n (slice_set belows row (g (get_or belows row 0)))
+stepped_up g ups at zero belows = slice_set belows at (g (get_or belows at 0))
+stepped_up g ups at (suc n) belows = stepped_up g ups (get_or ups at 0) n (slice_set belows at (g (get_or belows at 0)))
 
 -- a count after one group was made or removed below
 abbrev pub raised : ℕ → ℕ

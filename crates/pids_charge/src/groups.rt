@@ -100,10 +100,11 @@ impl<A: Allocator + Clone> Model for GroupTable<A> {
 }
 
 impl<A: Allocator + Clone> GroupTable<A> {
-    // Gives callers what `GroupTree::known` gives of a tree. It is proof only.
+    // Gives callers what `GroupTree::known` gives of a tree, and that no two groups have the same row. It is proof only.
     pub(crate) fn known(&self)
         ensures closed { IsClosed self.now }
         ensures prefixes { (p q : Path) → IsSome (fin.get self.now p) → at_or_below p q ≡ true → IsSome (fin.get self.now q) }
+        ensures apart { (p q : Path) → IsSome (fin.get self.now p) → IsSome (fin.get self.now q) → table_slot self.now p ≡ table_slot self.now q → p ≡ q }
         ensures flat { CountsAsFlat self.now }
     {
         self.tree.known();
@@ -176,6 +177,14 @@ impl<A: Allocator + Clone> GroupTable<A> {
     {
         let _ = &self.tree;
         self.rows[usize::from(at)].attr = attr;
+    }
+
+    // How many rows there are. Each group has one.
+    pub(crate) fn rows(&self) -> usize
+        ensures { (p : Path) → IsSome (fin.get self.now p) → table_slot self.now p < result }
+    {
+        let _ = &self.tree;
+        self.rows.len()
     }
 
     // The names of a group's children, as `GroupTree::child_names` returns them.

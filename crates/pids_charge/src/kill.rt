@@ -1,16 +1,17 @@
 //! Killing all processes of a group.
 
-ghost use Rattle.std.specs.Prelude.{◌≡◌, ◌≢◌, ℕ, ◌+◌, ◌≤◌, ◌++◌, [], None, IfSome, IfOk, IfErr, MatchOption, length};
+ghost use Rattle.std.specs.Prelude.{◌≡◌, ◌≢◌, ℕ, ◌+◌, ◌≤◌, ◌++◌, [], None, IsSome, IfSome, IfOk, IfErr, MatchOption, length};
 ghost use Rattle.std.specs.List.{All, sum_by};
 ghost use Rattle.std.specs.List.Sorted.{IsStrictlySortedBy};
 ghost use Rattle.std.specs.Ordering.{nat_cmp};
 ghost use Rattle.std.specs.BTreeMap.{is_at};
 ghost use Rattle.std.specs.Map.{values_of, keys_of, lookup, remove_entry};
+ghost use Rattle.std.specs.FinMap as fin;
 ghost use Rattle.std.specs.Vec.{vec_len, vec_capacity};
 ghost use Rattle.flat_model.specs.Command.{Kill};
 ghost use Rattle.flat_model.specs.CommandText.{IsPid};
 ghost use Rattle.flat_model.specs.Inverse as inverse;
-ghost use Rattle.process_table.specs.Chosen.{HaveOneHome};
+ghost use Rattle.flat_model.specs.Path.{Path};
 ghost use Rattle.flat_model.specs.Step.{refusal};
 ghost use Rattle.pids_charge.specs.Answers.{Does, refusal_of_fault, after_fault, names_in};
 ghost use Rattle.snzi_tokens.specs.Listed.{IsWithin, listed_at};
@@ -21,6 +22,7 @@ use crate::charges::Charges;
 use crate::fault::ChargeFault;
 use crate::gate::Gate;
 use crate::groups::GroupTable;
+use crate::inside::pids_inside;
 use crate::lost::{Lost, LostList};
 use crate::meter::Meter;
 use crate::pid::Pid;
@@ -51,7 +53,8 @@ fn gather<M: Meter, T: Allocator + Clone, A: Allocator + Clone, B: Allocator + C
 ) -> Result<Gathered<A>, AllocError>
     requires placed { All (λ p. IsPlaced M.LEAVES tree.now p) (values_of processes.now) }
     requires slots { SlotsBelow M.SLOTS tree.now }
-    requires homes { HaveOneHome (λ q. lookup (is_at (nat_cmp q)) processes.now) }
+    requires shallow { (p : Path) → IsSome (fin.get tree.now p) → length p ≤ 32 }
+    requires group { IsSome (fin.get tree.now path.now) }
     ensures pids { IfOk result (λ g. g.pids.items ≡ keys_of (inside path.now processes.now)) }
     ensures counted { IfOk result (λ g. (s j : ℕ) → listed_at g.tokens.items s j ≡ sum_by (λ p. charges_of tree.now p s j) (values_of (inside path.now processes.now))) }
     ensures many { IfOk result (λ g. length g.tokens.items ≡ sum_by (λ p. length p.home) (values_of (inside path.now processes.now))) }
@@ -60,7 +63,10 @@ fn gather<M: Meter, T: Allocator + Clone, A: Allocator + Clone, B: Allocator + C
     ensures room { IfOk result (λ g. length g.pids.items ≤ vec_capacity g.room) }
 {
     processes.known();
-    let pids = processes.inside(alloc.clone()?, path)?;
+    let Some(top) = tree.find_row(path) else {
+        unreachable!()
+    };
+    let pids = pids_inside::<M, _, _, _>(tree, processes, alloc.clone()?, top)?;
     let room = Vec::with_capacity(alloc.clone()?, pids.len())?;
     let mut tokens = Vec::new(alloc.clone()?);
     for pid in pids.as_slice() {
@@ -134,8 +140,8 @@ impl<A: Allocator + Clone, M: Meter> Charges<A, M> {
     }
 
     /// Removes all processes at or below the group, and returns each with its path; pids ascend. Costs time in the number
-    /// of these processes, plus one test of a path for each slot that has been used. Passes all charges to the meter at
-    /// once. It may wait for the threads that do parts of the settlement.
+    /// of these processes, plus a look at each row, and a walk up from each that has processes. Passes all charges to the
+    /// meter at once. It may wait for the threads that do parts of the settlement.
     ///
     /// # Errors
     ///

@@ -26,8 +26,9 @@
 //!   `INLINE_PEAKS`, or one of 2^32 or more.
 //! - The tree has the names of the groups, and a row for each has its attributes and how many groups are below it. A process
 //!   knows the row of its group. A walk up goes from the row of a group to that of its parent, so a fork, a refused fork and an
-//!   exit cost O(depth) steps and compare no names. So do the limits that a new group may meet. A process is found in constant
-//!   time. A path has at most 32 names.
+//!   exit cost O(depth) steps and compare no names. So do the limits that a new group may meet. A kill looks at each row, and
+//!   goes up from each that has processes, to its own row or the root's. A process is found in constant time. A path has at
+//!   most 32 names.
 //! - Who is given a path, as a move is, finds its row by a hint: 2,048 hints are rows, by a hash of a path's text, and a row
 //!   keeps the path of its group. If the hint's row keeps another path, or none, one descent of the tree finds the row by
 //!   O(depth · log children) comparisons. So groups whose hashes collide cost a descent each, and no more. Paths of up to 22
@@ -61,6 +62,7 @@ mod group;
 mod groups;
 mod hierarchy;
 mod hints;
+mod inside;
 mod kill;
 mod limit;
 mod lost;

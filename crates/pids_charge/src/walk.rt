@@ -1,8 +1,10 @@
-//! Walks from a group up to the root, from row to row: what they charge and uncharge.
+//! Walks from a group up to the root, from row to row: what they charge and uncharge, and which groups they meet.
 
 ghost use Rattle.std.specs.Prelude.{◌≡◌, ℕ, ◌+◌, ◌<◌, ◌≤◌, length, IsSome, OnOk};
 ghost use Rattle.std.specs.FinMap as fin;
+ghost use Rattle.flat_model.specs.Path.{Path, at_or_below};
 ghost use Rattle.snzi_tokens.specs.Listed.{IsWithin, listed_at};
+ghost use Rattle.pids_charge.specs.GroupRows.{IsOfGroup};
 ghost use Rattle.pids_charge.specs.Lists.{table_slot};
 ghost use Rattle.pids_charge.specs.Recount.{charges_at, charges_of, IsPlaced, SlotsBelow};
 
@@ -99,4 +101,24 @@ pub(crate) fn push_up<M: Meter, T: Allocator + Clone, A: Allocator + Clone, B: A
         at = tree.up(at);
     }
     Ok(())
+}
+
+// Whether the group in a row is at or below that in the row `top`. Compares no names.
+pub(crate) fn is_at_or_below<T: Allocator + Clone>(tree: &GroupTable<T>, at: u16, top: u16) -> bool
+    requires group { IsOfGroup tree.now at }
+    requires shallow { (p : Path) → IsSome (fin.get tree.now p) → length p ≤ 32 }
+    ensures { (p q : Path) → IsSome (fin.get tree.now p) → IsSome (fin.get tree.now q) → at ≡ table_slot tree.now p → top ≡ table_slot tree.now q → result ≡ at_or_below p q }
+{
+    tree.known();
+    let mut met = at;
+    for _up in 0..DEPTH_MAX + 1 {
+        if met == top {
+            return true;
+        }
+        if met == 0 {
+            return false;
+        }
+        met = tree.up(met);
+    }
+    false
 }

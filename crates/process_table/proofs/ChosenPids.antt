@@ -5,7 +5,7 @@ use Rattle.std.proofs.lemmas.List.{get_or_past}
 use Rattle.flat_model.specs.Path.{Path, at_or_below}
 use Rattle.process_table.specs.declared.process.Cell.{Cell}
 use Rattle.process_table.specs.declared.process.Process.{Process}
-use Rattle.process_table.specs.Chosen.{HaveOneHome, chosen_at, chosen_below}
+use Rattle.process_table.specs.Chosen.{HaveOneHome, chosen_at, chosen_below, member_at}
 use Rattle.process_table.specs.SlotPids.{list_at, IsAt}
 use Rattle.process_table.specs.Rows.{process_of}
 use Rattle.process_table.specs.Tied.{in_slot, IsTied}
@@ -94,3 +94,7 @@ module _ {A : Type 0} where
   pub member_counted : (s q : ℕ) (o : Option (Cell A)) → in_slot s o ≡ counted (λ e. eqb e.1.slot s) q (process_of o)
   member_counted s q None = refl
   member_counted s q (Some c) = refl
+
+  pub in_slot_is : (s : ℕ) (o : Option (Cell A)) → in_slot s o ≡ member_at s (process_of o)
+  in_slot_is s None = refl
+  in_slot_is s (Some c) = refl

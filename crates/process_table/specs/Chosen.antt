@@ -1,4 +1,4 @@
--- Which processes are at or below a group, slot by slot.
+-- Which processes are in a slot, and which are at or below a group, slot by slot.
 use Rattle.std.specs.Prelude.{ℕ, ◌≡◌, eqb, nat_lt, cond, Option, Some, None}
 use Rattle.flat_model.specs.Path.{Path, at_or_below}
 use Rattle.process_table.specs.declared.process.Process.{Process}
@@ -7,6 +7,11 @@ module _ {A : Type 0} where
   -- processes of one slot are in one group
   abbrev pub HaveOneHome : (ℕ → Option (Process A)) → Type 0
   HaveOneHome at = (p q : ℕ) (x y : Process A) → at p ≡ Some x → at q ≡ Some y → x.slot ≡ y.slot → x.home ≡ y.home
+
+  -- 1 for a process of the slot s, else 0
+  abbrev pub member_at : ℕ → Option (Process A) → ℕ
+  member_at s None = 0
+  member_at s (Some x) = cond (eqb x.slot s) 1 0
 
   -- 1 for a process of the slot s that is at or below g, else 0
   abbrev pub chosen_at : ℕ → Path → Option (Process A) → ℕ

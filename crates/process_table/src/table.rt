@@ -1,6 +1,6 @@
 //! The table of processes.
 
-ghost use Rattle.std.specs.Prelude.{◌≡◌, ℕ, List, [], IsSome, map, filter, eqb, is_some, IfOk, OnOk, OnErr};
+ghost use Rattle.std.specs.Prelude.{◌≡◌, ℕ, List, [], IsSome, map, filter, count_by, eqb, is_some, IfOk, OnOk, OnErr};
 ghost use Rattle.std.specs.BTreeMap.{insert_entry, is_at};
 ghost use Rattle.std.specs.List.{All};
 ghost use Rattle.std.specs.List.Sorted.{IsStrictlySortedBy, IsPermutation, IsSorted};
@@ -8,7 +8,7 @@ ghost use Rattle.std.specs.Map.{keys_of, lookup, remove_entry};
 ghost use Rattle.std.specs.Option.{option_copied};
 ghost use Rattle.std.specs.Ordering.{nat_cmp};
 ghost use Rattle.flat_model.specs.Path.{at_or_below};
-ghost use Rattle.process_table.specs.Chosen.{HaveOneHome};
+ghost use Rattle.process_table.specs.Chosen.{HaveOneHome, member_at};
 
 use crate::gather::gather;
 use crate::pages::Pages;
@@ -114,6 +114,7 @@ impl<A: Allocator + Clone> ProcessTable<A> {
     /// The pids of the processes in a slot, in no order. Takes constant time and allocates nothing.
     pub fn unordered(&self, slot: u16) -> &[u32]
         ensures present { All (λ q. IsSome (lookup (is_at (nat_cmp q)) self.now)) result.now }
+        ensures counted { (q : ℕ) → count_by (eqb q) result.now ≡ member_at slot (lookup (is_at (nat_cmp q)) self.now) }
         ensures sorted { (pids : List ℕ) → IsPermutation result.now pids → IsSorted nat_cmp pids → pids ≡ map (λ e. e.0) (filter (λ e. eqb e.1.slot slot) self.now) }
     {
         self.slots.pids(usize::from(slot))

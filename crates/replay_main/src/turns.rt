@@ -39,7 +39,7 @@ pub(crate) fn run_commands<R: Threads + Wait + Sync, G: Gate>(
     ensures turns { IfOk result (λ log. TakesTurns workers log.items) }
     ensures fault { IfErr result EndsWork }
 {
-    let Ok((desk, sessions)) = open_desk(alloc, workers) else {
+    let Ok((desk, sessions)) = open_desk(alloc, workers, commands.len()) else {
         return Err(ReplayFault::OutOfMemory);
     };
     let Ok(sessions) = serve(rt, alloc, gate, &desk, sessions, commands) else {
@@ -70,15 +70,23 @@ fn fault_of(fault: CloseFault) -> ReplayFault
     }
 }
 
-/// A desk, and all its sessions.
-fn open_desk(alloc: Global, workers: u8) -> Result<(Desk, Vec<Session>), AllocError>
+/// A desk, and all its sessions. The desk has memory for the log, and each session for the receipts
+/// of its share of the commands, so that no turn has to copy a list that grows.
+fn open_desk(
+    alloc: Global,
+    workers: u8,
+    commands: usize,
+) -> Result<(Desk, Vec<Session>), AllocError>
     requires { (1 ≤ workers) × (workers ≤ 8) }
     ensures { IfOk result (λ r. vec_len r.1 ≡ workers) }
 {
-    let desk = Desk::new(alloc, workers)?;
+    let desk = Desk::with_capacity(alloc, workers, commands)?;
+    let share = commands.div_ceil(usize::from(workers));
     let mut sessions = Vec::new(alloc);
     for number in 0..workers {
-        sessions.push(desk.session(number)?)?;
+        let mut session = desk.session(number)?;
+        session.receipts.reserve_exact(share)?;
+        sessions.push(session)?;
     }
     Ok((desk, sessions))
 }

@@ -28,12 +28,12 @@ pub(crate) struct Book {
 }
 
 impl Book {
-    /// A new engine, with an empty log.
-    pub(crate) fn new(alloc: Global) -> Result<Book, AllocError>
+    /// A new engine, with an empty log that has memory for this many entries.
+    pub(crate) fn new(alloc: Global, entries: usize) -> Result<Book, AllocError>
         ensures { IfOk result (λ b. b.log.items ≡ []) }
     {
         let engine = Engine::new(alloc, BoardMeter::new(alloc)?)?;
-        let log = Vec::new(alloc);
+        let log = Vec::with_capacity(alloc, entries)?;
         Ok(Book { alloc, engine, log })
     }
 

@@ -39,8 +39,21 @@ impl Desk {
         requires { (1 ≤ n) × (n ≤ 8) }
         ensures { IfOk result (λ d. d.sessions ≡ n) }
     {
+        Desk::with_capacity(alloc, n, 0)
+    }
+
+    /// Creates a desk as `new` does, with memory for `entries` entries of its log. The log can have
+    /// more.
+    ///
+    /// # Errors
+    ///
+    /// `AllocError` when out of memory.
+    pub fn with_capacity(alloc: Global, n: u8, entries: usize) -> Result<Desk, AllocError>
+        requires { (1 ≤ n) × (n ≤ 8) }
+        ensures { IfOk result (λ d. d.sessions ≡ n) }
+    {
         let hall = Hall {
-            book: Some(Book::new(alloc)?),
+            book: Some(Book::new(alloc, entries)?),
             is_halted: false,
             waits: Waits::none(),
         };

@@ -86,7 +86,7 @@ impl<A: Allocator + Clone, M: Meter> Engine<A, M> {
     ///
     /// Costs O(depth · log children) comparisons, where `depth` is that of the group or of the process's group; a process
     /// is found in constant time. `mkdir` and `rmdir` also shift the siblings that come after the group. A kill costs
-    /// time in the number of its processes, plus one test of a path for each slot that has been used.
+    /// time in the number of its processes, plus a look at each row of a group, and a walk up from each that has processes.
     pub fn apply<R: Threads + Wait + Sync, B: Allocator + Clone>(
         &mut self,
         rt: &R,

@@ -1,4 +1,4 @@
-use Rattle.std.proofs.Common.{◌≡◌, ◌≢◌, ℕ, ◌+◌, ◌-◌, ◌≤◌, arith, refl, sym, ◌∙◌, subst}
+use Rattle.std.proofs.Common.{◌≡◌, ℕ, ◌+◌, ◌-◌, arith, refl, sym, ◌∙◌, subst}
 use Rattle.pids_charge.specs.GroupRows.{HasWay, belows_of, lowered, stepped_up, ups_of}
 use Rattle.pids_charge.proofs.BelowSteps.{attrs_same, last_step, next_step, row_there, ups_same}
 use Rattle.pids_charge.proofs.groups.lower_below.Goals as goal

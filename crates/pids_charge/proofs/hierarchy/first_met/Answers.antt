@@ -1,6 +1,4 @@
-use Rattle.std.proofs.Common.{◌≡◌, ℕ, ◌+◌, ◌-◌, ◌<◌, length, take, suc, refl, sym, ap, ◌∙◌, arith}
-use Rattle.std.proofs.lemmas.List.{length-take-le}
-use Rattle.std.specs.FinMap as fin
+use Rattle.std.proofs.Common.{◌+◌, ◌-◌, length, take, refl, ◌∙◌, arith}
 use Rattle.flat_model.specs.Path.{Path, parent}
 use Rattle.flat_model.proofs.PathLaws.{take_above}
 use Rattle.pids_charge.proofs.FirstLimits.{first_here, none_met, one_further}

@@ -1,13 +1,11 @@
-use Rattle.std.proofs.Common.{◌≡◌, ℕ, ◌+◌, ◌-◌, ◌^◌, ◌<◌, ◌≤◌, Some, IsSome, is_some, length, take, option_copied, sym, ap, ◌∙◌, subst}
+use Rattle.std.proofs.Common.{◌+◌, ◌≤◌, is_some, length, take, option_copied, sym, ap, ◌∙◌, subst}
 use Rattle.std.proofs.lemmas.Bool.{false≢true}
-use Rattle.std.specs.FinMap as fin
 use Rattle.flat_model.specs.Path.{Path}
 use Rattle.flat_model.specs.State.{State}
 use Rattle.flat_model.specs.Step.{home_of, at_each, count_up}
 use Rattle.flat_model.proofs.PathLaws.{take_above}
 use Rattle.group_tree.specs.Flat.{group_of}
-use Rattle.pids_charge.specs.Events.{CountsRefusals}
-use Rattle.pids_charge.specs.Recount.{state_of, SameSlots}
+use Rattle.pids_charge.specs.Recount.{state_of}
 use Rattle.pids_charge.proofs.FlatGroups.{group-at, process-is}
 use Rattle.pids_charge.proofs.FlatTotals.{flat-counts, raised, same_slots, up_each}
 use Rattle.pids_charge.proofs.Changes.{slots_stay, charges_stay}

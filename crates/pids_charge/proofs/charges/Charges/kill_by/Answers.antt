@@ -12,8 +12,8 @@ use Rattle.pids_charge.specs.Recount.{state_of}
 use Rattle.snzi_tokens.specs.declared.token.Token.{Token}
 use Rattle.process_table.specs.declared.process.Process.{Process}
 use Rattle.pids_charge.proofs.Entries.{kept_keys}
+use Rattle.pids_charge.proofs.FlatGroups.{group-is, killed_group}
 use Rattle.pids_charge.proofs.Gathers.{left_rows, lost_rows}
-use Rattle.pids_charge.proofs.TableSlots.{one_home}
 use Rattle.pids_charge.proofs.MeterContents.{held_small, inside_there, killed}
 use Rattle.pids_charge.proofs.KillLists.{lost-is, killed-is}
 use Rattle.pids_charge.proofs.charges.Charges.kill_by.Goals as goal
@@ -70,9 +70,10 @@ returns-clause-taken g c =
     ∙ lost-is c.self.inside.tree c.self.inside.processes c.self.invariant.recounted.ordered c.args.path.now
     ∙ ap (λ (t : State). lost t c.args.path.now) c.self.view_is
 
-pub gather-requires-clause-homes : goal.gather-requires-clause-homes
-gather-requires-clause-homes g c =
-    one_home g.M.Meter.SLOTS c.self.inside.tree c.self.inside.free.items c.self.invariant.has_slots g.M.Meter.LEAVES c.self.inside.processes c.self.invariant.recounted.placed
+pub gather-requires-clause-group : goal.gather-requires-clause-group
+gather-requires-clause-group g c =
+    sym (group-is c.args.self.now c.self.inside.tree c.self.inside.processes c.self.view_is c.args.path.now)
+    ∙ killed_group g.M.Meter.SLOTS c.args.self.now c.args.path.now c.in_default.ensures.first
 
 pub leave-lost-requires-clause-pids : goal.leave-lost-requires-clause-pids
 leave-lost-requires-clause-pids g c =

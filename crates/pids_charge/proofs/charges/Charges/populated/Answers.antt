@@ -1,4 +1,4 @@
-use Rattle.std.proofs.Common.{◌<◌, ℕ, Some, None, IsSome, length, arith, refl, sym, ap, ◌∙◌, subst}
+use Rattle.std.proofs.Common.{◌<◌, ℕ, Some, None, IsSome, length, arith, refl, ap, ◌∙◌, subst}
 use Rattle.std.specs.FinMap as fin
 use Rattle.flat_model.specs.State.{State}
 use Rattle.flat_model.specs.Counts.{current}

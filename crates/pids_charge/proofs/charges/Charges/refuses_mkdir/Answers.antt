@@ -1,7 +1,6 @@
-use Rattle.std.proofs.Common.{◌≡◌, ◌-◌, IsSome, length, take, Some, is_some, arith, sym, refl, ap, ◌∙◌, subst, ℕ}
+use Rattle.std.proofs.Common.{◌≡◌, ◌-◌, IsSome, length, take, Some, is_some, arith, sym, ap, ◌∙◌, subst, ℕ}
 use Rattle.std.proofs.lemmas.Bool.Decides.{nat_tests}
 use Rattle.std.specs.FinMap as fin
-use Rattle.flat_model.specs.Path.{parent}
 use Rattle.flat_model.specs.Command as model
 use Rattle.pids_charge.specs.HierarchyLimits.{refusal_along}
 use Rattle.pids_charge.specs.Lists.{table_slot}

@@ -1,4 +1,4 @@
-use Rattle.std.proofs.Common.{Some, ◌+◌, length, arith, sym, ap, ◌∙◌, subst, refl}
+use Rattle.std.proofs.Common.{Some, ◌+◌, sym, ap, ◌∙◌, subst, refl}
 use Rattle.std.proofs.Math.ListN.{set}
 use Rattle.group_tree.specs.Groups.{Groups}
 use Rattle.group_tree.specs.declared.attr.Attr.{Attr}

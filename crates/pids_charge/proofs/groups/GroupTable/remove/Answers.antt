@@ -1,4 +1,4 @@
-use Rattle.std.proofs.Common.{List, arith, refl, sym, ap, ◌∙◌, subst}
+use Rattle.std.proofs.Common.{List, arith, sym, ap, ◌∙◌, subst}
 use Rattle.std.proofs.lemmas.List.{length-map}
 use Rattle.group_tree.specs.Groups.{Groups}
 use Rattle.group_tree.specs.declared.attr.Attr.{Attr}

@@ -1,13 +1,20 @@
-use Rattle.std.proofs.Common.{eqb, count_by, ap, ◌∙◌}
+use Rattle.std.proofs.Common.{eqb, count_by, sym, ap, ◌∙◌}
 use Rattle.process_table.specs.Cells.{cell_at}
+use Rattle.process_table.specs.Chosen.{member_at}
 use Rattle.process_table.specs.SlotPids.{list_at}
-use Rattle.process_table.proofs.ChosenPids.{member_counted}
-use Rattle.process_table.proofs.Tables.{listed_now, each_found}
+use Rattle.process_table.proofs.ChosenPids.{in_slot_is, member_counted}
+use Rattle.process_table.proofs.Tables.{get_is, listed_now, each_found}
 use Rattle.process_table.proofs.table.ProcessTable.unordered.Goals as goal
 
 pub returns-clause-present : goal.returns-clause-present
 returns-clause-present g c =
     each_found c.self.inside.pages c.self.inside.slots c.self.invariant c.args.self.now c.self.view_is c.args.slot c.pids.result.now (c.pids.ensures ∙ ap (list_at c.self.inside.slots) c.from.ensures)
+
+pub returns-clause-counted : goal.returns-clause-counted
+returns-clause-counted g c = λ q.
+    ap (count_by (eqb q)) (c.pids.ensures ∙ ap (list_at c.self.inside.slots) c.from.ensures) ∙ c.self.invariant.counted c.args.slot q
+    ∙ in_slot_is c.args.slot (cell_at c.self.inside.pages q)
+    ∙ sym (ap (member_at c.args.slot) (get_is c.self.inside.pages c.self.inside.slots c.self.invariant c.args.self.now c.self.view_is q))
 
 pub returns-clause-sorted : goal.returns-clause-sorted
 returns-clause-sorted g c = λ pids moved up.
