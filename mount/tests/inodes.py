@@ -7,8 +7,8 @@ import stat
 import sys
 import time
 
-from on_kernel import new_group
-from support import Mount, error_of, finish, libc, same, step, write, until
+from on_kernel import left_out, new_group
+from support import AT, Mount, error_of, finish, inside, libc, run_each, same, step, write, until
 
 DIRECTORY, FILE = 4, 8  # DT_DIR, DT_REG
 libc.opendir.restype = libc.readdir.restype = ctypes.c_void_p
@@ -364,23 +364,52 @@ def handled(at):
     os.rmdir(group)
 
 
-def unknown():
-    """A handle of a group that the kernel has not looked up: an undone rmdir has made it, and its number is that of a listing."""
-    m = Mount()
-    os.mkdir(m.path("h"))
-    os.rmdir(m.path("h"))
-    write(m.control("undo"), b"1\n")
-    number, above = entries(m.at)["h"][0], os.open(m.at, os.O_RDONLY)
+def by_handle(above, number):
+    """A descriptor of the directory with this number, by a file handle; the name of the errno."""
     # the length, the type, the halves of the number and its generation, as the kernel writes them
     handle = (ctypes.c_uint32 * 5)(12, 0x81, number >> 32, number & 0xFFFFFFFF, 0)
-    fd = libc.open_by_handle_at(above, handle, os.O_RDONLY)
-    if fd >= 0 or ctypes.get_errno() != errno.EPERM:
-        got = os.fstat(fd).st_ino if fd >= 0 else errno.errorcode[ctypes.get_errno()]
-        same("a group that the kernel does not know", got, number)
-    if fd >= 0:
+    fd = libc.open_by_handle_at(above, handle, os.O_RDONLY | os.O_DIRECTORY)
+    return fd if fd >= 0 else errno.errorcode[ctypes.get_errno()]
+
+
+def look_up_handles(at):
+    """Handles of groups that the kernel has not looked up: an undone rmdir has made them, and their numbers are those of a listing.
+    It is left out for those who may not open a handle."""
+    os.makedirs(at + "/h/i")
+    os.rmdir(at + "/h/i")
+    os.rmdir(at + "/h")
+    write(at + "/.makhloeum/undo", b"2\n")
+    above, path = os.open(at, os.O_RDONLY), at
+    opened = [above]
+    for name in ("h", "i"):
+        path = os.path.join(path, name)
+        number = next(entry.inode() for entry in os.scandir(opened[-1]) if entry.name == name)
+        fd = by_handle(above, number)
+        if fd == "EPERM":
+            left_out("a handle may not be opened here")
+            break
+        step("%s: a group that the kernel does not know is opened" % name, isinstance(fd, int), fd)
+        if not isinstance(fd, int):
+            break
+        opened.append(fd)
+        same("its number, and its path", (os.fstat(fd).st_ino, os.readlink("/proc/self/fd/%d" % fd)), (number, path))
+        os.mkdir("new", dir_fd=fd)
+        same("it is the group", os.path.isdir(path + "/new"), True)
+        os.rmdir(path + "/new")
+    same("a number that nobody has", by_handle(above, 1 << 40) in ("ESTALE", "EPERM"), True)
+    for fd in opened:
         os.close(fd)
-    os.close(above)
+
+
+def unknown():
+    m = Mount()
+    look_up_handles(m.at)
     m.end()
+
+
+def unknown_in_a_run():
+    """Newer kernels let the superuser of the namespace that has mounted a file system open handles of its directories."""
+    look_up_handles(AT)
 
 
 def undone():
@@ -436,6 +465,7 @@ def control():
     m.end()
 
 
+inside(unknown_in_a_run)
 ON_BOTH = (listed, numbered, modes, owned, settings, timed, removed, continued, handled)
 if sys.argv[1:] == ["kernel"]:
     with new_group() as group:
@@ -447,6 +477,7 @@ else:
         test(m.at)
     m.end()
     unknown()
+    run_each({unknown_in_a_run: ["--root", "--control"]})
     undone()
     notified()
     control()

@@ -1,5 +1,6 @@
 """How makhloeum begins: options and their order, the folders of its commands, and the files of --trace and --answers, which are as they
 were if it does not begin."""
+import ctypes
 import os
 import shutil
 import signal
@@ -8,8 +9,8 @@ import subprocess
 import sys
 import tempfile
 
-from support import AT, CGREPLAY, PATIENCE, PROGRAM, Mount, error_of, finish, parent_of, read, same, status_within
-from support import step, until
+from support import AT, CGREPLAY, PATIENCE, PROGRAM, Beside, Mount, error_of, finish, libc, parent_of, read, same
+from support import status_within, step, until
 
 HOME = tempfile.mkdtemp()
 
@@ -194,13 +195,34 @@ while True:
 """
 
 
+def by_handle(pid, number):
+    handle = os.pidfd_open(pid)
+    signal.pidfd_send_signal(handle, number)
+    os.close(handle)
+    return 0
+
+
+# The calls by which a process sends a signal to another. The receiver's si_code tells the first three apart.
+SENDERS = (
+    ("kill", libc.kill),
+    ("sigqueue", lambda pid, number: libc.sigqueue(pid, number, ctypes.c_void_p(1))),
+    ("tgkill", lambda pid, number: libc.tgkill(pid, pid, number)),
+    ("pidfd_send_signal", by_handle),
+)
+
+
 def passed():
     """Which signals to makhloeum reach the program: each of these once, also if they come together."""
     p = subprocess.Popen([PROGRAM, "run", sys.executable, "-c", SAYS], stdout=subprocess.PIPE, text=True)
     same("it runs", p.stdout.readline(), "ready\n")
-    for each in (signal.SIGHUP, signal.SIGINT, signal.SIGTERM):
-        p.send_signal(each)
-        same("%s comes" % each.name, p.stdout.readline(), "%d\n" % each)
+    ways = [(how, send, each) for how, send in SENDERS for each in (signal.SIGHUP, signal.SIGINT, signal.SIGTERM)]
+    for how, send, each in ways:
+        same("%s is sent by %s" % (each.name, how), send(p.pid, each), 0)
+        heard = Beside(p.stdout.readline).result()
+        same("and comes", heard, "%d\n" % each)
+        if heard is None:
+            p.kill()
+            return
     for each in (signal.SIGINT, signal.SIGHUP, signal.SIGQUIT, signal.SIGTERM):
         p.send_signal(each)
     got = {int(p.stdout.readline()) for _ in range(3)}

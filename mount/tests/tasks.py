@@ -468,14 +468,39 @@ def undone():
     other = t.ask("into", top.top)
     same("a birth in the root is one line", (newest(), other in top.procs()), (["fork 1 %d" % other], True))
     os.kill(other, signal.SIGKILL)
-    t.ask("end")
     os.kill(child, signal.SIGKILL)
-    top.write(".makhloeum/forget", "")
-    same("after a forget nothing is left to undo", (depth(), newest()), (0, []))
-    b.take(t.pid)
-    same("a later move is one again", (depth(), len(newest())), (1, 4))
     t.end()
-    becomes("and all end", b.current, 0)
+    becomes("and all end", lambda: (a.current(), b.current()), (0, 0))
+
+
+def forgotten():
+    """A forget drops whole operations, whatever the newest is, and leaves groups and processes as they are."""
+    a, b = (top / "a").make(), (top / "b").make()
+    t = Tasks(a)
+    all_threads = [t.pid, *t.make(3)]
+    depth = lambda: int(top.read(".makhloeum/depth"))
+    texts = lambda: [top.read(".makhloeum/" + name) for name in ("newest", "trace")]
+    undo = lambda: error_of(write, AT + "/.makhloeum/undo", b"\n")
+    moves = lambda: (b.take(t.pid), a.take(t.pid))
+    for what, calls, count in (
+        ("several lines", moves, 2),
+        ("one line", lambda: (moves(), a.write("pids.max", 100)), 3),
+    ):
+        before = depth()
+        calls()
+        same("operations, the newest of %s" % what, depth(), before + count)
+        top.write(".makhloeum/forget", "")
+        same("a forget leaves none", (depth(), texts()), (0, ["", ""]))
+        same("none can be undone", undo(), "ENODATA")
+        same("all threads stay", (a.threads(), b.current()), (sorted(all_threads), 0))
+        b.take(t.pid)
+        moved = "".join("write /b cgroup.procs %d\n" % n for n in all_threads)
+        same("a later move is one operation", (depth(), texts()), (1, [moved, moved]))
+        same("one undo moves all threads back", (undo(), a.threads(), b.current()), ("ok", sorted(all_threads), 0))
+        same("and there is none before it", (depth(), undo()), (0, "ENODATA"))
+    same("a limit stays too", a.read("pids.max"), "100\n")
+    t.end()
+    becomes("and all end", lambda: (a.current(), b.current()), (0, 0))
 
 
 def taken_back():
@@ -610,7 +635,7 @@ def full():
     t.end()
 
 
-INSIDE = (*AS_THE_KERNEL, left_behind, undone, taken_back, joined, stopped_server, mixed, uncounted, full)
+INSIDE = (*AS_THE_KERNEL, left_behind, undone, forgotten, taken_back, joined, stopped_server, mixed, uncounted, full)
 
 # ---------------------------------------------------------------- outside
 

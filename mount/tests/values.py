@@ -46,7 +46,8 @@ pgsteal_direct pgfault pgmajfault pgrefill pgactivate pgdeactivate pglazyfree pg
 EMPTY = {"io.max", "io.stat"}
 ON_ROOT = ["cpu.stat", "cpuset.cpus.effective", "cpuset.mems.effective", "io.stat", "memory.stat"]
 
-# What is written to which file, the errno, and what is read then.
+# What is written to which file, the errno, and what is read then. Where a value has several faults, it is the errno of the first that
+# the kernel's code looks for: the number of 64 bits, what follows it, its range, and then what depends on other values.
 VALUES = [
     ("memory.max", b"max\n", "ok", "max"),
     ("memory.max", b"%d\n" % (PAGE - 1), "ok", "0"),
@@ -74,6 +75,12 @@ VALUES = [
     ("memory.oom.group", b"-1\n", "EINVAL", "1"),
     ("memory.oom.group", b"x\n", "EINVAL", "1"),
     ("memory.oom.group", b"4294967296\n", "ERANGE", "1"),
+    ("memory.oom.group", b"4294967296x\n", "EINVAL", "1"),
+    ("memory.oom.group", b"99999999999999999999x\n", "ERANGE", "1"),
+    ("memory.oom.group", b"2147483648\n", "ERANGE", "1"),
+    ("memory.oom.group", b"2147483647\n", "EINVAL", "1"),
+    ("memory.oom.group", b"-2147483649\n", "ERANGE", "1"),
+    ("memory.oom.group", b"-2147483648\n", "EINVAL", "1"),
     ("memory.oom.group", b"0x0\n", "ok", "0"),
     ("cpu.max", b"50000\n", "ok", "50000 100000"),
     ("cpu.max", b"50000 200000\n", "ok", "50000 200000"),
@@ -94,6 +101,10 @@ VALUES = [
     ("cpu.max", b"10000\n", "EINVAL", "20000 100000"),
     ("cpu.max.burst", b" 1\n", "EINVAL", "20000"),
     ("cpu.max.burst", b"-1\n", "EINVAL", "20000"),
+    ("cpu.max.burst", b"18446744073709551615\n", "EINVAL", "20000"),
+    ("cpu.max.burst", b"18446744073709551615x\n", "EINVAL", "20000"),
+    ("cpu.max.burst", b"18446744073709551616\n", "ERANGE", "20000"),
+    ("cpu.max.burst", b"18446744073709551616x\n", "ERANGE", "20000"),
     ("cpu.max.burst", b"0\n", "ok", "0"),
     ("cpu.weight", b"1\n", "ok", "1"),
     ("cpu.weight", b"10000\n", "ok", "10000"),
@@ -103,18 +114,44 @@ VALUES = [
     ("cpu.weight", b" 5\n", "EINVAL", "10000"),
     ("cpu.weight", b"99999999999999999999\n", "ERANGE", "10000"),
     ("cpu.weight", b"18446744073709551666\n", "ERANGE", "10000"),
+    ("cpu.weight", b"18446744073709551666x\n", "ERANGE", "10000"),
+    ("cpu.weight", b"10001x\n", "EINVAL", "10000"),
+    ("cpu.weight", b"0 1\n", "EINVAL", "10000"),
     ("cpu.weight", b"0x64\n", "ok", "100"),
     ("cpu.weight.nice", b"-20\n", "ok", "-20"),
     ("cpu.weight.nice", b"19\n", "ok", "19"),
     ("cpu.weight.nice", b"20\n", "ERANGE", "19"),
     ("cpu.weight.nice", b"-21\n", "ERANGE", "19"),
     ("cpu.weight.nice", b"1.5\n", "EINVAL", "19"),
+    ("cpu.weight.nice", b"20x\n", "EINVAL", "19"),
+    ("cpu.weight.nice", b"9223372036854775808x\n", "EINVAL", "19"),
+    ("cpu.weight.nice", b"18446744073709551616x\n", "ERANGE", "19"),
+    ("cpu.weight.nice", b"-9223372036854775809x\n", "EINVAL", "19"),
+    ("cpu.weight.nice", b"-18446744073709551616x\n", "ERANGE", "19"),
     ("cpu.weight.nice", b"17\n", "ok", "17"),
     ("cpu.weight.nice", b"-+5\n", "EINVAL", "17"),
     ("cpu.weight.nice", b"+5\n", "ok", "5"),
     ("cpu.idle", b"2\n", "EINVAL", "0"),
+    ("cpu.idle", b"9223372036854775807\n", "EINVAL", "0"),
+    ("cpu.idle", b"9223372036854775808\n", "ERANGE", "0"),
+    ("cpu.idle", b"9223372036854775808x\n", "EINVAL", "0"),
+    ("cpu.idle", b"-9223372036854775808\n", "EINVAL", "0"),
+    ("cpu.idle", b"-9223372036854775809\n", "ERANGE", "0"),
     ("cpu.idle", b"1\n", "ok", "1"),
     ("cpu.weight", b"100\n", "EINVAL", "0"),
+    ("cpu.weight", b"1\n", "EINVAL", "0"),
+    ("cpu.weight", b"10000\n", "EINVAL", "0"),
+    ("cpu.weight", b"0\n", "ERANGE", "0"),
+    ("cpu.weight", b"10001\n", "ERANGE", "0"),
+    ("cpu.weight", b"10001x\n", "EINVAL", "0"),
+    ("cpu.weight", b"18446744073709551616\n", "ERANGE", "0"),
+    ("cpu.weight.nice", b"-20\n", "EINVAL", "19"),
+    ("cpu.weight.nice", b"19\n", "EINVAL", "19"),
+    ("cpu.weight.nice", b"-21\n", "ERANGE", "19"),
+    ("cpu.weight.nice", b"20\n", "ERANGE", "19"),
+    ("cpu.weight.nice", b"20x\n", "EINVAL", "19"),
+    ("cpu.weight.nice", b"9223372036854775808\n", "ERANGE", "19"),
+    ("cpu.idle", b"2\n", "EINVAL", "1"),
     ("cpu.idle", b"0\n", "ok", "0"),
     ("cpu.weight", b"100\n", "ok", "100"),
     ("io.weight", b"200\n", "ok", "default 200"),
@@ -196,7 +233,10 @@ def values():
         said = value if len(value) < 50 else value[:5] + b".."
         same("%s: %r" % (name, said), error_of(write, m.path("v", name), value), error)
         same("%s then" % name, text_of(m, name).rstrip("\n"), text)
+    for name in ("memory.oom.group", "cpu.max", "cpu.weight", "cpu.weight.nice", "cpu.idle", "io.max", "io.weight"):
+        same("%s: too long, and no value" % name, error_of(write, m.path("v", name), b"x" * 5000), "E2BIG")
     for name in LIMITS:
+        same("%s: too long, and no value" % name, error_of(write, m.path("v", name), b"x" * 5000), "E2BIG")
         write(m.path("v", name), b"1m\n")
         same(name, text_of(m, name), "1048576\n")
     step("no line of it reached the engine", "memory" not in open(m.trace).read() and "cpu" not in open(m.trace).read())
@@ -359,11 +399,27 @@ def of_disks():
         ("io.max", "8:0 wiops=00000000000000000009", "ok", "8:0 rbps=max wbps=max riops=max wiops=9\n"),
         ("io.max", "8:0 wiops=100000000000000000000", "EINVAL", "8:0 rbps=max wbps=max riops=max wiops=9\n"),
         ("io.max", "8:0 rbps=18446744073709551623", "ok", "8:0 rbps=7 wbps=max riops=max wiops=9\n"),
+        # a value with two faults
+        ("io.max", "9:1x rbps=9", "EINVAL", "8:0 rbps=7 wbps=max riops=max wiops=9\n"),
+        ("io.max", "9:1 rbps", "ENODEV", "8:0 rbps=7 wbps=max riops=max wiops=9\n"),
+        ("io.max", "9:1 rbps=0", "ENODEV", "8:0 rbps=7 wbps=max riops=max wiops=9\n"),
+        ("io.max", "9:1 bps=9", "ENODEV", "8:0 rbps=7 wbps=max riops=max wiops=9\n"),
+        ("io.max", "8:1 rbps=0", "ENODEV", "8:0 rbps=7 wbps=max riops=max wiops=9\n"),
+        ("io.max", "8:0 bps=0", "ERANGE", "8:0 rbps=7 wbps=max riops=max wiops=9\n"),
+        ("io.max", "8:0 bps=x", "EINVAL", "8:0 rbps=7 wbps=max riops=max wiops=9\n"),
+        ("io.max", "8:0 rbps=0 wbps=1", "ERANGE", "8:0 rbps=7 wbps=max riops=max wiops=9\n"),
+        ("io.max", "8:0 wbps=1 rbps=0", "EINVAL", "8:0 rbps=7 wbps=max riops=max wiops=9\n"),
+        ("io.max", "8:0 rbps=0 bps=9", "ERANGE", "8:0 rbps=7 wbps=max riops=max wiops=9\n"),
+        ("io.max", "8:0 bps=9 rbps=0", "EINVAL", "8:0 rbps=7 wbps=max riops=max wiops=9\n"),
         ("io.max", "8:0 rbps=max wiops=max", "ok", ""),
         ("io.weight", "7:10 50", "ok", "default 100\n7:10 50\n"),
         ("io.weight", "7:1 60", "ok", "default 100\n7:10 50\n7:1 60\n"),
         ("io.weight", "7:10 default", "ok", "default 100\n7:1 60\n"),
         ("io.weight", "8:1 50", "ENODEV", "default 100\n7:1 60\n"),
+        ("io.weight", "8:1 0", "ENODEV", "default 100\n7:1 60\n"),
+        ("io.weight", "8:1 x", "ENODEV", "default 100\n7:1 60\n"),
+        ("io.weight", "9:1 10001", "ENODEV", "default 100\n7:1 60\n"),
+        ("io.weight", "9:1x 50", "EINVAL", "default 100\n7:1 60\n"),
         ("io.weight", "7:1 0", "EINVAL", "default 100\n7:1 60\n"),
         ("io.weight", "7:1 10001", "EINVAL", "default 100\n7:1 60\n"),
         ("io.weight", "7:1 10000", "ok", "default 100\n7:1 10000\n"),
@@ -429,6 +485,36 @@ def of_processors():
             (cpus, "9", "ERANGE", cpus, "2-3\n"),
             (cpus, "N", "ok", cpus, "8\n"),
             (cpus, "0-N:1/8", "ok", cpus, "0,8\n"),
+            # lists with two faults: within a range the numbers come first, then its order and its pattern, then the last
+            # number; a range is looked at before the next; and what the machine has comes at the end
+            *(
+                (cpus, words, error, cpus, "0,8\n")
+                for words, error in (
+                    ("9x", "EINVAL"),
+                    ("99999999999x", "EOVERFLOW"),
+                    ("99999999999-1", "EOVERFLOW"),
+                    ("9-99999999999", "EOVERFLOW"),
+                    ("x-99999999999", "EINVAL"),
+                    ("9-1", "EINVAL"),
+                    ("9-8", "EINVAL"),
+                    ("0-9:1", "EINVAL"),
+                    ("0-9:0/0", "EINVAL"),
+                    ("0-9:3/2", "EINVAL"),
+                    ("4-3", "EINVAL"),
+                    ("0-9:99999999999/x", "EOVERFLOW"),
+                    ("0-9:x/99999999999", "EINVAL"),
+                    ("0-99999999999:3/2", "EOVERFLOW"),
+                    ("9,x", "ERANGE"),
+                    ("x,9", "EINVAL"),
+                    ("9,99999999999", "ERANGE"),
+                    ("99999999999,9", "EOVERFLOW"),
+                    ("9,2-1", "ERANGE"),
+                    ("2-1,9", "EINVAL"),
+                    ("4,9", "ERANGE"),
+                    ("9,4", "ERANGE"),
+                    ("4,99999999999", "EOVERFLOW"),
+                )
+            ),
             (mems, "0-2", "ok", "cpuset.mems.effective", all_mems),
             (mems, "1-2", "ok", "cpuset.mems.effective", "2\n"),
             (mems, "1", "ok", "cpuset.mems.effective", all_mems),
@@ -436,6 +522,11 @@ def of_processors():
             (mems, "N", "EINVAL", mems, "1\n"),
             (mems, "1023", "EINVAL", mems, "1\n"),
             (mems, "1024", "ERANGE", mems, "1\n"),
+            (mems, "3,1024", "ERANGE", mems, "1\n"),
+            (mems, "1024,3", "ERANGE", mems, "1\n"),
+            (mems, "1024-3", "EINVAL", mems, "1\n"),
+            (mems, "1024,x", "ERANGE", mems, "1\n"),
+            (mems, "x,1024", "EINVAL", mems, "1\n"),
             (mems, "", "ok", "cpuset.mems.effective", all_mems),
         )
     )
