@@ -1,6 +1,7 @@
 """How makhloeum begins: options and their order, the folders of its commands, and the files of --trace and --answers, which are as they
 were if it does not begin."""
 import ctypes
+import glob
 import os
 import shutil
 import signal
@@ -254,10 +255,20 @@ def streams():
         same("with %s: the program's streams" % closed, (status, said, found, len(found)), (0, "", wanted, 3))
 
 
+def states_of(pid):
+    """The states of a process's threads; none if one of them is just ending."""
+    try:
+        return {open(name).read().rpartition(")")[2].split()[0] for name in glob.glob("/proc/%d/task/*/stat" % pid)}
+    except OSError:
+        return set()
+
+
 def killed():
     """Who waits for the mount is told if its server was killed: it opens its trace in a mount that does not answer."""
     m, at = Mount(), folder("killed")
     m.process.send_signal(signal.SIGSTOP)
+    # a thread that still ran could take the open and then stop: nothing would end that open, not even SIGKILL
+    step("all threads of the other mount's server have stopped", until(lambda: states_of(m.process.pid) == {"T"}))
     p = subprocess.Popen([PROGRAM, "mount", at, "--trace", m.path("trace")])
     children = lambda: [int(n) for n in os.listdir("/proc") if n.isdigit() and parent_of(int(n)) == p.pid]
     step("there is a server", until(children))
