@@ -104,6 +104,21 @@ def test_a_short_call_keeps_the_lock_unless_it_would_wait_with_it(hierarchy, mad
     assert [gives_up for call, gives_up in made] == [True] * len(calls), made
 
 
+@pytest.mark.parametrize("name", LONG)
+def test_a_long_call_waits_for_a_call_of_another_thread(hierarchy, monkeypatch, name):
+    """The handle whose calls fail where they would wait is not used, or the call is then made again with the one that waits."""
+    hierarchy.mkdir("/a")
+    quick = hierarchy._quick
+
+    def blocked(call):
+        return lambda *words: WOULD_BLOCK if words and words[0] is quick else call(*words)
+
+    for module in (library, patient):
+        for call in [it for it in vars(module) if it.startswith("mk_")]:
+            monkeypatch.setattr(module, call, blocked(getattr(module, call)))
+    LONG[name](hierarchy)
+
+
 class Ticks:
     """A thread that only counts, and so runs only while no other has the lock."""
 
