@@ -2,8 +2,6 @@
 
 from __future__ import annotations
 
-import contextlib
-import gc
 import os
 import random
 import sys
@@ -12,10 +10,12 @@ from typing import List
 HERE = os.path.dirname(os.path.abspath(__file__))
 PYTHON = os.path.join(HERE, "..", "..", "bindings", "python")
 sys.path.insert(0, PYTHON)
+sys.path.append(os.path.join(PYTHON, "tests"))  # for what the tests of both folders share
 
 from makhloeum import Hierarchy  # noqa: E402
 from makhloeum.look.history import History  # noqa: E402
 from makhloeum.look.page import page  # noqa: E402
+from open_files import open_files  # noqa: E402, F401
 
 PATHS = ["/a", "/b", "/a/x", "/a/y", "/a/x/deep", "/a/x/deep/er", "/b/x"]
 FILES = ["cgroup.procs", "cgroup.stat", "cgroup.events", "pids.current", "pids.peak", "pids.events", "pids.max"]
@@ -145,17 +145,6 @@ HOSTILE = (
     "mkdir /constructor\nfork 1 2\nwrite /__proto__ cgroup.procs 2\n</script><script>window.hacked = 1</script>\ncat /<script> pids.max\n"
     "write /<script>/&quot; pids.max 0\nfork 1 3\nwrite /<script>/&quot; cgroup.procs 3\nfork 3 4\n\\u003cb\\u003e \\\" ' ` ${hacked}\n"
 )
-
-
-def open_files() -> set[tuple[str, str]]:
-    """The descriptors of this process, each with what it names. Files that nobody refers to any more are closed first, so that none
-    of an earlier test is closed in between."""
-    gc.collect()
-    found = set()
-    for fd in os.listdir("/proc/self/fd"):
-        with contextlib.suppress(FileNotFoundError):  # that of the listing itself
-            found.add((fd, os.readlink(f"/proc/self/fd/{fd}")))
-    return found
 
 
 def history_of(trace: str | bytes) -> History:
