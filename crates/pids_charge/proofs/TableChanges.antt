@@ -10,12 +10,13 @@ use Rattle.flat_model.proofs.PathLaws.{path_cmp-IsTotalOrder, path_cmp-IsAntisym
 use Rattle.group_tree.specs.Groups.{Groups, IsClosed, descendant_count, slot_of}
 use Rattle.group_tree.specs.declared.attr.Attr.{Attr}
 use Rattle.pids_charge.specs.declared.group.Group.{Group}
-use Rattle.pids_charge.specs.GroupRows.{HasCounts, HasParents, HasRows, HasTable, HasWay, IsWay, KeepsPaths, attrs_of, belows_of, in_row, lowered, raised, stepped_up, ups_of, with_rows}
+use Rattle.pids_charge.specs.declared.above.Change.TheVariants.{Raise, Lower}
+use Rattle.pids_charge.specs.GroupRows.{ChangesCounts, HasCounts, HasParents, HasRows, HasTable, IsRowOf, KeepsPaths, attrs_of, below_after, belows_of, in_row, ups_of, with_rows}
 use Rattle.pids_charge.specs.Lists.{slot_at, table_slot}
 use Rattle.pids_charge.proofs.Changes.{which}
-use Rattle.pids_charge.proofs.CountsUp.{has_way, left_counts, made_counts, rows_apart, rows_inside}
+use Rattle.pids_charge.proofs.CountsUp.{left_counts, made_counts}
 use Rattle.pids_charge.proofs.InRows.{closed_rows, in_tree, left_is, left_rows, made_is, made_rows}
-use Rattle.pids_charge.proofs.ParentRows.{attr_of, attrs_kept, attrs_longer, attrs_set, below_of, belows_kept, belows_set, counts_seen, seen_left, seen_made, up_of, ups_set}
+use Rattle.pids_charge.proofs.ParentRows.{attr_of, attrs_kept, attrs_longer, attrs_set, below_of, belows_kept, belows_set, counts_seen, seen_left, seen_made, ups_set}
 use Rattle.pids_charge.proofs.ParentSteps.{own_slot}
 use Rattle.pids_charge.proofs.TableSlots.{table_slot_same}
 
@@ -25,23 +26,6 @@ has_a_name (n ∷ p) ne = omega arith
 
 short_parent : (p : Path) → length p ≤ 32 → length (parent p) ≤ 32
 short_parent p short = omega (arith, short, length-take-le (length p - 1) p (omega arith))
-
--- ---- a walk from the parent of p, in any table
-
-module _ (tree : Groups) (rows : List Group) (r : HasRows tree (attrs_of rows)) (h : HasParents (with_rows tree (attrs_of rows)) (ups_of rows)) (p : Path) (named : 0 < length p)
-    (there : IsSome (fin.get (with_rows tree (attrs_of rows)) (parent p))) where
-  -- the numbers of groups below are as many
-  pub counts_inside : (q : Path) → IsSome (fin.get (with_rows tree (attrs_of rows)) q) → table_slot (with_rows tree (attrs_of rows)) q < length (belows_of rows)
-  counts_inside q i = let inside = rows_inside tree (attrs_of rows) r q i in omega (arith, inside, length-map rows attr_of, length-map rows below_of)
-
-  pub way_up : (from : ℕ) → from ≡ table_slot (with_rows tree (attrs_of rows)) (parent p) → HasWay (ups_of rows) from (length (parent p))
-  way_up from is =
-      subst (λ (k : ℕ). HasWay (ups_of rows) k (length (parent p))) (sym is)
-      (has_way (with_rows tree (attrs_of rows)) (closed_rows tree (attrs_of rows) r.closed) (ups_of rows) h (rows_apart tree (attrs_of rows) r)
-      (λ q i. let inside = rows_inside tree (attrs_of rows) r q i in omega (arith, inside, length-map rows attr_of, length-map rows up_of)) (length (parent p)) (parent p) refl there)
-
-  pub is_way : (from : ℕ) → from ≡ table_slot (with_rows tree (attrs_of rows)) (parent p) → length p ≤ 32 → IsWay (ups_of rows) from
-  is_way from is short = record { steps = length (parent p); few = short_parent p short; way = way_up from is }
 
 -- ---- the rows at the end
 
@@ -116,8 +100,8 @@ module _ (tree : Groups) (rows : List Group) (r : HasRows tree (attrs_of rows)) 
     above_now : above ≡ table_slot m (parent p)
     above_now = is ∙ sym (slot_stays (parent p) there)
 
-    pub made_way : length p ≤ 32 → IsWay (ups_of rows_now) above
-    made_way short = is_way new rows_now has_now parents_now p named parent_there above above_now short
+    pub made_row : length p ≤ 32 → IsRowOf new rows_now (parent p) above
+    made_row short = record { has_rows = has_now; has_parents = parents_now; there = parent_there; here = above_now; shallow = short_parent p short }
 
     pub made_seen : (last : List Group) → attrs_of last ≡ attrs_of rows_now → with_rows new (attrs_of last) ≡ fin.insert s p y
     made_seen last attrs = ap (with_rows new) attrs ∙ seen_now
@@ -134,15 +118,12 @@ module _ (tree : Groups) (rows : List Group) (r : HasRows tree (attrs_of rows)) 
           ap (λ (bs : List ℕ). get_or bs (table_slot m p) 0) belows_now
           ∙ get_or-set_at (belows_of long) (y.slot + 1) (table_slot m p) 0 0 at (omega (arith, inside, number, length-map long below_of))
 
-      pub made_table : (last : List Group) → attrs_of last ≡ attrs_of rows_now → ups_of last ≡ ups_of rows_now → length p ≤ 32
-          → ((n : ℕ) → n ≤ 32 → HasWay (ups_of rows_now) above n → belows_of last ≡ stepped_up raised (ups_of rows_now) above n (belows_of rows_now)) → (paths : List (Option Path)) → KeepsPaths new paths → HasTable new last paths
-      made_table last attrs ups short below paths keeps =
-          let is = below (length (parent p)) (short_parent p short) (way_up new rows_now has_now parents_now p named parent_there above above_now) in
+      pub made_table : (last : List Group) → attrs_of last ≡ attrs_of rows_now → ups_of last ≡ ups_of rows_now
+          → ChangesCounts (below_after Raise) (with_rows new (attrs_of rows_now)) (parent p) (belows_of rows_now) (belows_of last)
+          → (paths : List (Option Path)) → KeepsPaths new paths → HasTable new last paths
+      made_table last attrs ups changes paths keeps =
           last_table new rows_now last attrs ups has_now parents_now
-          (subst (HasCounts m) (sym (is ∙ ap (λ (k : ℕ). stepped_up raised (ups_of rows_now) k (length (parent p)) (belows_of rows_now)) above_now))
-          (made_counts s m p named (closed_rows new (attrs_of rows_now) closed) (ups_of rows_now) parents_now (rows_apart new (attrs_of rows_now) has_now) parent_there (belows_of rows_now)
-          (counts_inside new rows_now has_now parents_now p named parent_there) y few closed_seen absent seen_now others own))
-          paths keeps
+          (made_counts s m p named (belows_of rows_now) (belows_of last) y few closed_seen absent seen_now others own changes) paths keeps
 
   -- ---- a group is removed
 
@@ -191,16 +172,14 @@ module _ (tree : Groups) (rows : List Group) (r : HasRows tree (attrs_of rows)) 
       up_now : up ≡ table_slot left (parent p)
       up_now = is ∙ sym (same_slot (parent p) above_there)
 
-      pub left_way : length p ≤ 32 → IsWay (ups_of rows) up
-      left_way short = is_way new rows has_left parents_gone p named above_there up up_now short
+      pub left_row : length p ≤ 32 → IsRowOf new rows (parent p) up
+      left_row short = record { has_rows = has_left; has_parents = parents_gone; there = above_there; here = up_now; shallow = short_parent p short }
 
-      pub left_table : HasCounts (with_rows tree (attrs_of rows)) (belows_of rows) → (last : List Group) → attrs_of last ≡ attrs_of rows → ups_of last ≡ ups_of rows → length p ≤ 32
-          → ((n : ℕ) → n ≤ 32 → HasWay (ups_of rows) up n → belows_of last ≡ stepped_up lowered (ups_of rows) up n (belows_of rows)) → (paths : List (Option Path)) → KeepsPaths new paths → HasTable new last paths
-      left_table counts last attrs ups short below paths keeps =
-          let is = below (length (parent p)) (short_parent p short) (way_up new rows has_left parents_gone p named above_there up up_now) in
+      pub left_table : HasCounts (with_rows tree (attrs_of rows)) (belows_of rows) → (last : List Group) → attrs_of last ≡ attrs_of rows → ups_of last ≡ ups_of rows
+          → ChangesCounts (below_after Lower) (with_rows new (attrs_of rows)) (parent p) (belows_of rows) (belows_of last)
+          → (paths : List (Option Path)) → KeepsPaths new paths → HasTable new last paths
+      left_table counts last attrs ups changes paths keeps =
           last_table new rows last attrs ups has_left parents_gone
-          (subst (HasCounts left) (sym (is ∙ ap (λ (k : ℕ). stepped_up lowered (ups_of rows) k (length (parent p)) (belows_of rows)) up_now))
-          (left_counts s left p named (closed_rows new (attrs_of rows) closed) (ups_of rows) parents_gone (rows_apart new (attrs_of rows) has_left) above_there (belows_of rows)
-          (counts_inside new rows has_left parents_gone p named above_there) (in_row (attrs_of rows) a) own_before seen_gone gone
-          (λ q i. ap (λ (k : ℕ). get_or (belows_of rows) k 0) (same_slot q i) ∙ counts_seen tree rows r s v h counts q (subst IsSome (was q i) i))))
+          (left_counts s left p named (belows_of rows) (belows_of last) (in_row (attrs_of rows) a) own_before seen_gone gone
+          (λ q i. ap (λ (k : ℕ). get_or (belows_of rows) k 0) (same_slot q i) ∙ counts_seen tree rows r s v h counts q (subst IsSome (was q i) i)) changes)
           paths keeps

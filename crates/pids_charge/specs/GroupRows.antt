@@ -1,11 +1,13 @@
 -- The rows of groups: their attributes and paths, by the numbers that the tree has in place of slots.
-use Rattle.std.specs.Prelude.{ℕ, zero, suc, min, ◌+◌, ◌-◌, ◌^◌, ◌<◌, ◌≤◌, ◌≡◌, List, length, get_or, slice_set, Option, Some, None, IsSome, map, option_map}
+use Rattle.std.specs.Prelude.{ℕ, min, ◌+◌, ◌-◌, ◌^◌, ◌<◌, ◌≤◌, ◌≡◌, cond, List, length, get_or, Option, Some, None, IsSome, map, option_map}
 use Rattle.std.specs.FinMap as fin
-use Rattle.flat_model.specs.Path.{Path, parent}
+use Rattle.flat_model.specs.Path.{Path, parent, at_or_below}
 use Rattle.flat_model.specs.Mapped.{map_values}
 use Rattle.group_tree.specs.Groups.{Groups, IsClosed, descendant_count}
 use Rattle.group_tree.specs.declared.attr.Attr.{Attr}
 use Rattle.pids_charge.specs.Lists.{table_slot}
+use Rattle.pids_charge.specs.declared.above.Change.{Change}
+use Rattle.pids_charge.specs.declared.above.Change.TheVariants.{Raise, Lower}
 use Rattle.pids_charge.specs.declared.group.Group.{Group}
 
 -- what the rows say: attributes, how many groups are below, and the rows of parents
@@ -56,33 +58,34 @@ pub record HasTable (tree : Groups) (rows : List Group) (kept : List (Option Pat
   pub has_counts : HasCounts (with_rows tree (attrs_of rows)) (belows_of rows)
   pub keeps_paths : KeepsPaths tree kept
 
--- ---- a walk up
-
--- n steps lead from a row up to the root's
-abbrev pub HasWay : List ℕ → ℕ → ℕ → Type 0
-HasWay ups at zero = (at ≡ 0) × (at < length ups)
-HasWay ups at (suc n) = (0 < at) × (at < length ups) × HasWay ups (get_or ups at 0) n
-
--- no more steps than a path has names
-pub record IsWay (ups : List ℕ) (at : ℕ) : Type 0 where
-  pub steps : ℕ
-  pub few : steps ≤ 32
-  pub way : HasWay ups at steps
-
--- the counts in the rows on such a way, changed by g
-abbrev pub stepped_up : (ℕ → ℕ) → List ℕ → ℕ → ℕ → List ℕ → List ℕ
-stepped_up g ups at zero belows = slice_set belows at (g (get_or belows at 0))
-stepped_up g ups at (suc n) belows = stepped_up g ups (get_or ups at 0) n (slice_set belows at (g (get_or belows at 0)))
-
--- a count after one group was made or removed below
-abbrev pub raised : ℕ → ℕ
-raised n = min (n + 1) (2 ^ 32 - 1)
-
-abbrev pub lowered : ℕ → ℕ
-lowered n = n - 1
-
 -- some group's processes are in this slot of their table
 pub record IsOfGroup (groups : Groups) (at : ℕ) : Type 0 where
   pub path : Path
   pub there : IsSome (fin.get groups path)
   pub here : at ≡ table_slot groups path
+
+-- ---- a group is made or removed
+
+-- the tree's groups have these rows, and `at` is the row of the group at p, which has no more than 32 names
+pub record IsRowOf (tree : Groups) (rows : List Group) (p : Path) (at : ℕ) : Type 0 where
+  pub has_rows : HasRows tree (attrs_of rows)
+  pub has_parents : HasParents (with_rows tree (attrs_of rows)) (ups_of rows)
+  pub there : IsSome (fin.get (with_rows tree (attrs_of rows)) p)
+  pub here : at ≡ table_slot (with_rows tree (attrs_of rows)) p
+  pub shallow : length p ≤ 32
+
+-- it is the row of some group of some tree
+pub record IsRow (rows : List Group) (at : ℕ) : Type 0 where
+  pub tree : Groups
+  pub path : Path
+  pub is : IsRowOf tree rows path at
+
+-- a row's count of groups after a change; the greatest u32 and 0 stay
+abbrev pub below_after : Change → ℕ → ℕ
+below_after Raise n = min (n + 1) (2 ^ 32 - 1)
+below_after Lower n = n - 1
+
+-- g is applied to the counts in the rows of the group at p and of each group above it, and those of all other groups stay
+abbrev pub ChangesCounts : (ℕ → ℕ) → Groups → Path → List ℕ → List ℕ → Type 0
+ChangesCounts g groups p old new = (q : Path) → IsSome (fin.get groups q)
+    → get_or new (table_slot groups q) 0 ≡ cond (at_or_below p q) (g (get_or old (table_slot groups q) 0)) (get_or old (table_slot groups q) 0)

@@ -3,6 +3,7 @@
 ghost use Rattle.std.specs.Prelude.{◌≡◌, ◌≤◌, length, take, IsSome};
 ghost use Rattle.std.specs.FinMap as fin;
 ghost use Rattle.pids_charge.specs.Events.{CountsRefusals, stepped};
+ghost use Rattle.pids_charge.specs.GroupRows.{below_after};
 ghost use Rattle.pids_charge.specs.Lists.{table_slot};
 ghost use Rattle.pids_charge.specs.Peaks.{SetsPeaks};
 
@@ -35,7 +36,8 @@ pub(crate) fn set_peaks_up<T: Allocator + Clone, A: Allocator + Clone>(
     }
 }
 
-// What a refused fork, or its undo, does to an event total.
+// One more or one fewer: what a refused fork, or its undo, does to an event total, and a group that is made or removed to the
+// number of groups below another.
 #[derive(Clone, Copy)]
 pub(crate) enum Change {
     Raise,
@@ -50,6 +52,16 @@ impl Change {
         match self {
             Change::Raise => total.saturating_add(1),
             Change::Lower => total.saturating_sub(1),
+        }
+    }
+
+    // The greatest number that a row can hold and 0 stay.
+    pub(crate) fn of_below(self, below: u32) -> u32
+        ensures { result ≡ below_after self below }
+    {
+        match self {
+            Change::Raise => below.saturating_add(1),
+            Change::Lower => below.saturating_sub(1),
         }
     }
 }

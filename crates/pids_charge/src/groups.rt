@@ -6,12 +6,13 @@ ghost use Rattle.std.specs.FinMap as fin;
 ghost use Rattle.flat_model.specs.Path.{Path, parent, at_or_below};
 ghost use Rattle.group_tree.specs.ChildNames.{NamesChildren};
 ghost use Rattle.group_tree.specs.Flat.{CountsAsFlat};
-ghost use Rattle.group_tree.specs.Groups.{IsClosed, Removes, only_root, descendant_count};
+ghost use Rattle.group_tree.specs.Groups.{Groups, IsClosed, Removes, only_root, descendant_count};
 ghost use Rattle.group_tree.specs.declared.attr.Attr.{Attr};
 ghost use Rattle.pids_charge.specs.declared.group.Group.{Group};
-ghost use Rattle.pids_charge.specs.GroupRows.{HasWay, IsOfGroup, IsWay, attrs_of, belows_of, lowered, raised, stepped_up, ups_of};
+ghost use Rattle.pids_charge.specs.GroupRows.{ChangesCounts, IsOfGroup, IsRow, IsRowOf, attrs_of, below_after, belows_of, ups_of, with_rows};
 ghost use Rattle.pids_charge.specs.Lists.{slot_at, table_slot};
 
+use crate::above::Change;
 use crate::group::Group;
 use crate::hints::KeptPaths;
 use crate::notes::DEPTH_MAX;
@@ -36,35 +37,17 @@ fn lengthen<A: Allocator>(rows: &mut Vec<Group, A>, row: u16) -> Result<(), Allo
     Ok(())
 }
 
-// Raises the number of groups below the group in the row `first`, and below each one above it.
-fn raise_below<A: Allocator>(rows: &mut Vec<Group, A>, first: u16)
-    requires { IsWay (ups_of rows.old.items) first }
+// Changes the number of groups below the group in the row `first`, and below each group above it.
+fn change_below<A: Allocator>(rows: &mut Vec<Group, A>, first: u16, change: Change)
+    requires { IsRow rows.old.items first }
     ensures attrs { attrs_of rows.new.items ≡ attrs_of rows.old.items }
     ensures ups { ups_of rows.new.items ≡ ups_of rows.old.items }
-    ensures below { (n : ℕ) → n ≤ 32 → HasWay (ups_of rows.old.items) first n → belows_of rows.new.items ≡ stepped_up raised (ups_of rows.old.items) first n (belows_of rows.old.items) }
+    ensures below { (tree : Groups) (p : Path) → IsRowOf tree rows.old.items p first → ChangesCounts (below_after change) (with_rows tree (attrs_of rows.old.items)) p (belows_of rows.old.items) (belows_of rows.new.items) }
 {
     let mut at = usize::from(first);
     for _up in 0..DEPTH_MAX + 1 {
         let row = &mut rows[at];
-        row.below = row.below.saturating_add(1);
-        if at == 0 {
-            return;
-        }
-        at = usize::from(row.up);
-    }
-}
-
-// Lowers the number of groups below the group in the row `first`, and below each one above it.
-fn lower_below<A: Allocator>(rows: &mut Vec<Group, A>, first: u16)
-    requires { IsWay (ups_of rows.old.items) first }
-    ensures attrs { attrs_of rows.new.items ≡ attrs_of rows.old.items }
-    ensures ups { ups_of rows.new.items ≡ ups_of rows.old.items }
-    ensures below { (n : ℕ) → n ≤ 32 → HasWay (ups_of rows.old.items) first n → belows_of rows.new.items ≡ stepped_up lowered (ups_of rows.old.items) first n (belows_of rows.old.items) }
-{
-    let mut at = usize::from(first);
-    for _up in 0..DEPTH_MAX + 1 {
-        let row = &mut rows[at];
-        row.below = row.below.saturating_sub(1);
+        row.below = change.of_below(row.below);
         if at == 0 {
             return;
         }
@@ -108,7 +91,6 @@ impl<A: Allocator + Clone> GroupTable<A> {
         ensures flat { CountsAsFlat self.now }
     {
         self.tree.known();
-        let _ = &self.rows;
     }
 
     // The attributes of the group at the path. Costs one descent, unless there is a hint.
@@ -125,7 +107,6 @@ impl<A: Allocator + Clone> GroupTable<A> {
     pub(crate) fn find_row<B: Allocator + Clone>(&self, path: &GroupPath<B>) -> Option<u16>
         ensures { MatchOption result (fin.get self.now path.now ≡ None) (λ at. IsSome (fin.get self.now path.now) × (at ≡ table_slot self.now path.now)) }
     {
-        let _ = &self.rows;
         if let Some(row) = self.kept.hinted(path) {
             return Some(row);
         }
@@ -144,7 +125,6 @@ impl<A: Allocator + Clone> GroupTable<A> {
         requires { n ≤ length path.now }
         ensures { MatchOption result (fin.get self.now (take n path.now) ≡ None) (λ at. IsSome (fin.get self.now (take n path.now)) × (at ≡ table_slot self.now (take n path.now))) }
     {
-        let _ = &self.rows;
         match self.tree.find_at(path, n) {
             Some(found) => Some(found.slot),
             None => None,
@@ -156,7 +136,6 @@ impl<A: Allocator + Clone> GroupTable<A> {
         requires { IsOfGroup self.now at }
         ensures { (p : Path) → IsSome (fin.get self.now p) → at ≡ table_slot self.now p → Some result.now ≡ fin.get self.now p }
     {
-        let _ = &self.tree;
         &self.rows[usize::from(at)].attr
     }
 
@@ -165,7 +144,6 @@ impl<A: Allocator + Clone> GroupTable<A> {
         requires { IsOfGroup self.now at }
         ensures { (p : Path) → IsSome (fin.get self.now p) → at ≡ table_slot self.now p → result ≡ table_slot self.now (parent p) }
     {
-        let _ = &self.tree;
         self.rows[usize::from(at)].up
     }
 
@@ -175,7 +153,6 @@ impl<A: Allocator + Clone> GroupTable<A> {
         requires same { (p : Path) (a : Attr) → fin.get self.old p ≡ Some a → at ≡ table_slot self.old p → attr.slot ≡ a.slot }
         ensures { (p : Path) → IsSome (fin.get self.old p) → at ≡ table_slot self.old p → self.new ≡ fin.insert self.old p attr }
     {
-        let _ = &self.tree;
         self.rows[usize::from(at)].attr = attr;
     }
 
@@ -183,7 +160,6 @@ impl<A: Allocator + Clone> GroupTable<A> {
     pub(crate) fn rows(&self) -> usize
         ensures { (p : Path) → IsSome (fin.get self.now p) → table_slot self.now p < result }
     {
-        let _ = &self.tree;
         self.rows.len()
     }
 
@@ -194,7 +170,6 @@ impl<A: Allocator + Clone> GroupTable<A> {
     ) -> Option<ChildNames<'_, A>>
         ensures { NamesChildren self.now path.now result }
     {
-        let _ = &self.rows;
         self.tree.child_names(path)
     }
 
@@ -213,7 +188,6 @@ impl<A: Allocator + Clone> GroupTable<A> {
         requires { IsOfGroup self.now at }
         ensures { (p : Path) → IsSome (fin.get self.now p) → at ≡ table_slot self.now p → result ≡ descendant_count self.now p }
     {
-        let _ = &self.tree;
         u64::from(self.rows[usize::from(at)].below)
     }
 
@@ -225,14 +199,13 @@ impl<A: Allocator + Clone> GroupTable<A> {
     ) -> Result<Attr, TreeFault>
         ensures { Removes self.old self.new path.now result }
     {
-        let _ = &self.rows;
         match self.tree.remove(path) {
             Ok(removed) => {
                 self.tree.known();
                 path.known();
                 self.kept.forget(removed.slot);
                 let row = self.rows[usize::from(removed.slot)];
-                lower_below(&mut self.rows, row.up);
+                change_below(&mut self.rows, row.up, Change::Lower);
                 Ok(row.attr)
             }
             Err(fault) => Err(fault),
@@ -289,7 +262,6 @@ impl<A: Allocator + Clone> GroupTable<A> {
         ensures made { OnOk result (self.new ≡ fin.insert self.old path.now attr) }
         ensures kept { OnErr result (self.new ≡ self.old) }
     {
-        let _ = &self.tree;
         let row = attr.slot + 1;
         lengthen(&mut self.rows, row)?;
         let copied = self.kept.admit(row, path)?;
@@ -305,7 +277,7 @@ impl<A: Allocator + Clone> GroupTable<A> {
             up: above,
         };
         self.rows[usize::from(row)] = made;
-        raise_below(&mut self.rows, above);
+        change_below(&mut self.rows, above, Change::Raise);
         self.kept.keep(row, copied);
         Ok(())
     }
