@@ -33,6 +33,20 @@ static int look_up(const struct mounted *m)
 	return is_it ? steal_fd(&root) : -1;
 }
 
+/* The longest path of a group has no room for the name of a file behind it, so the group is opened first. -1 with errno. */
+static int open_file(int root, const char *path)
+{
+	char group[PATH_MAX_SAID + 1];
+	const char *name = strrchr(path, '/');
+	if (name - path > PATH_MAX_SAID) {
+		errno = ENAMETOOLONG;
+		return -1;
+	}
+	snprintf(group, sizeof group, "%.*s", (int)(name - path), path);
+	cleanup_fd int directory = beneath_open(root, name == path ? "/" : group, O_PATH | O_DIRECTORY);
+	return directory < 0 ? -1 : beneath_open(directory, name, O_PATH | O_NOFOLLOW);
+}
+
 /* What the program mounts or makes there is never reached: the walk starts at the root of the mount and leaves it nowhere.
    The descriptor that was checked is the file whose time is set. The server leaves out this time, and inotify reports the call
    only as a modification, since it sets no other time. False: try again. */
@@ -41,7 +55,7 @@ static bool touch_once(int root, const struct mount_id *system, const char *path
 	static const struct timespec times[2] = { { .tv_nsec = UTIME_OMIT }, { .tv_sec = -MARK } };
 	char link[32];
 	struct mount_id found;
-	cleanup_fd int file = beneath_open(root, path, O_PATH | O_NOFOLLOW);
+	cleanup_fd int file = open_file(root, path);
 	if (file < 0)
 		return errno != ENOMEM; /* the group may be gone */
 	if (!beneath_identify(file, &found) || !beneath_is_same_system(&found, system))

@@ -1,14 +1,12 @@
 #include "halts.h"
 #include "link.h"
-#include "status.h"
 #include "stops.h"
 #include <errno.h>
 #include <signal.h>
 #include <stdint.h>
-#include <stdio.h>
-#include <string.h>
 #include <sys/ptrace.h>
 #include <sys/syscall.h>
+#include <sys/wait.h>
 #include <time.h>
 #include <unistd.h>
 
@@ -33,20 +31,16 @@ static void set(struct thread *t, enum rest how)
 }
 
 /* A first thread that ended before the others never stops again, and its end is not reported before theirs. It has no memory
-   any more: the kernel says so without looking up a path, unless this process may not look at the program's memory. */
+   any more: the kernel says so without looking up a path, unless this process may not look at the program's memory. Then it
+   says that there is no stop to wait for, once the thread has ended. */
 static bool has_ended(pid_t id)
 {
-	char path[40], line[512];
+	siginfo_t unused;
 	if (syscall(SYS_move_pages, id, 0UL, NULL, NULL, NULL, 0) == 0)
 		return false;
 	if (errno == EINVAL || errno == ESRCH)
 		return true;
-	snprintf(path, sizeof path, "%d/stat", id);
-	ssize_t n = status_text(path, line, sizeof line);
-	if (n < 0)
-		return n == -ENOENT || n == -ESRCH;
-	const char *text = strrchr(line, ')');
-	return !text || text[1] == 0 || text[2] == 'Z' || text[2] == 'X';
+	return waitid(P_PID, (id_t)id, &unused, WSTOPPED | WNOHANG | WNOWAIT | __WALL) && errno == ECHILD;
 }
 
 /* Processes of which all threads rest but the first, which may be ending: they are looked at again until that is known. */

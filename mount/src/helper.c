@@ -2,6 +2,7 @@
 #include "groups.h"
 #include "memory.h"
 #include "notified.h"
+#include "opening.h"
 #include "own.h"
 #include "tables.h"
 #include <errno.h>
@@ -22,10 +23,10 @@
 enum {
 	READERS = 512,
 	READERS_AT_FIRST = 15,
-	AT_FIRST = 2,
-	SPARE = 14,
+	ANSWERERS_AT_FIRST = 15,
 	ANSWERERS = 512,
-	PATIENCE = 100,
+	PATIENCE = 100, /* looks */
+	LOOK = 1000, /* microseconds */
 	STACK = 256 * 1024,
 	OPEN_AT_FIRST = 64
 };
@@ -119,74 +120,108 @@ static void *read_all(void *end)
 	_exit(0);
 }
 
-static atomic_int answerers, idle, spare;
-static atomic_bool stalled;
-static sem_t needed; /* a spare thread */
+/* One thread listens for calls, since each call wakes all that listen, and answers what it hears. A second one watches it: if it
+   is at the same call for a whole look, as when the program keeps it waiting, the second one listens in its place, and a third
+   one watches. All others are free. */
+static atomic_uint turn; /* odd while the thread that listens is at a call */
+static atomic_int answerers, unoccupied;
+static atomic_bool watched, rests, stalled;
+static sem_t needed, heard; /* one more to watch; a call, while the one that watches rests */
 
 static void *answer_all(void *listener);
 
-static void add_answerer(int listener)
+static bool add_answerer(int listener, void *(*begin)(void *))
 {
 	pthread_t thread;
+	if (atomic_load(&answerers) == ANSWERERS || pthread_create(&thread, &small, begin, (void *)(intptr_t)listener))
+		return false;
 	atomic_fetch_add(&answerers, 1);
-	atomic_fetch_add(&idle, 1);
-	if (atomic_fetch_sub(&spare, 1) > 0) {
-		sem_post(&needed); /* it cannot fail: there are few spare threads */
-		return;
+	return true;
+}
+
+/* Only the thread that listens calls this, while no other watches. */
+static bool add_watcher(int listener)
+{
+	atomic_store(&watched, true); /* first, since it may soon listen itself */
+	if (atomic_fetch_sub(&unoccupied, 1) > 0 || add_answerer(listener, answer_all)) {
+		sem_post(&needed); /* it cannot fail: there are few threads */
+		return true;
 	}
-	atomic_fetch_add(&spare, 1);
-	if (pthread_create(&thread, &small, answer_all, (void *)(intptr_t)listener) == 0)
-		return;
-	atomic_fetch_sub(&answerers, 1);
-	atomic_fetch_sub(&idle, 1);
+	atomic_fetch_add(&unoccupied, 1);
+	atomic_store(&watched, false);
+	return false;
 }
 
-/* Whether another thread will soon be idle, as it is if the program keeps none of them waiting: then only threads are
+/* Whether another thread watches, or soon does, as one can if the program keeps none of them waiting: then only threads are
    lacking, or the machine is busy. If none came, the next call waits only for a millisecond, until one has answered. */
-static bool is_another_idle(void)
+static bool is_watched(int listener)
 {
-	for (int left = atomic_load(&stalled) ? 1 : PATIENCE; left > 0 && atomic_load(&idle) == 0; left--)
-		usleep(1000);
-	bool another = atomic_load(&idle) > 0;
-	atomic_store(&stalled, !another);
-	return another;
+	for (int left = atomic_load(&stalled) ? 1 : PATIENCE; !atomic_load(&watched) && !add_watcher(listener); left--) {
+		if (left == 0) {
+			atomic_store(&stalled, true);
+			return false;
+		}
+		usleep(LOOK);
+	}
+	return true;
 }
 
-/* There is always one more thread that waits, until there are very many. Then the last one lets every call pass, since the
-   program may keep all others waiting and must not block other programs. */
-static void *answer_all(void *argument)
+/* Returns once this thread has to listen. It rests while no calls come. */
+static void watch(void)
 {
-	int listener = (int)(intptr_t)argument;
+	unsigned seen = atomic_load(&turn) - 1;
+	for (;; usleep(LOOK)) {
+		unsigned now = atomic_load(&turn);
+		bool same = now == seen, busy = now % 2;
+		seen = now;
+		if (same && busy && atomic_compare_exchange_strong(&turn, &now, now + 1))
+			return;
+		if (!same || busy)
+			continue;
+		atomic_store(&rests, true);
+		if (atomic_load(&turn) != now && atomic_exchange(&rests, false))
+			continue;
+		while (sem_wait(&heard))
+			;
+	}
+}
+
+/* Returns whether another thread listens in place of this one: else the program has ended. Without a thread that watches, calls
+   pass, since the program may keep all others waiting and must not block other programs. */
+static bool listen_for(int listener)
+{
 	struct seccomp_notif call;
 	while (notified_next(listener, &call)) {
-		bool last = atomic_fetch_sub(&idle, 1) == 1;
-		if (last && atomic_load(&answerers) < ANSWERERS)
-			add_answerer(listener);
-		if (last && !is_another_idle())
+		unsigned now = atomic_fetch_add(&turn, 1) + 1;
+		if (atomic_load(&rests) && atomic_exchange(&rests, false))
+			sem_post(&heard); /* it cannot fail: one waits */
+		if (!is_watched(listener))
 			notified_let_through(listener, &call);
 		else {
 			notified_answer(listener, &call);
 			atomic_store(&stalled, false);
 		}
-		atomic_fetch_add(&idle, 1);
+		if (!atomic_compare_exchange_strong(&turn, &now, now + 1))
+			return true;
 	}
+	return false;
+}
+
+static void *answer_all(void *listener)
+{
+	do {
+		atomic_fetch_add(&unoccupied, 1);
+		while (sem_wait(&needed))
+			;
+		watch();
+		atomic_store(&watched, false);
+	} while (listen_for((int)(intptr_t)listener));
 	return NULL;
 }
 
-/* Spare threads are made while threads can be made, and do not wait for calls until they are needed, since each call wakes
-   all who wait for one. */
-static void *answer_later(void *listener)
+static void *answer_first(void *listener)
 {
-	while (sem_wait(&needed))
-		;
-	return answer_all(listener);
-}
-
-static void add_spare(int listener)
-{
-	pthread_t thread;
-	if (pthread_create(&thread, &small, answer_later, (void *)(intptr_t)listener) == 0)
-		atomic_fetch_add(&spare, 1);
+	return listen_for((int)(intptr_t)listener) ? answer_all(listener) : NULL;
 }
 
 /* The kernel finds most files for the helper as it finds them for the program (opening_find), from the same root. A superuser's is
@@ -201,22 +236,19 @@ static bool share_root(pid_t program)
 static void serve(int listener, int end)
 {
 	own_raise_files(); /* each call that waits has a few */
-	notified_begin(listener);
 	/* other descriptors of the supervisor would keep the mount and the other ends of its pipes open */
 	for (int fd = STDERR_FILENO + 1; fd < OPEN_AT_FIRST; fd++)
 		if (fd != listener && fd != end && fd != groups_root() && fd != tables_socket())
 			close(fd); /* it fails where there is none */
-	if (pthread_attr_init(&small) || pthread_attr_setstacksize(&small, STACK) || sem_init(&needed, 0, 0))
-		_exit(1);
-	for (int i = 0; i < AT_FIRST; i++)
-		add_answerer(listener);
-	if (atomic_load(&answerers) == 0)
+	opening_begin();
+	if (pthread_attr_init(&small) || pthread_attr_setstacksize(&small, STACK) || sem_init(&needed, 0, 0) ||
+		sem_init(&heard, 0, 0) || !add_answerer(listener, answer_first))
 		_exit(1);
 	/* threads that can be made now may not be had later */
 	for (int i = 0; i < READERS_AT_FIRST; i++)
 		add_reader((void *)(intptr_t)end);
-	for (int i = 0; i < SPARE; i++)
-		add_spare(listener);
+	for (int i = 0; i < ANSWERERS_AT_FIRST; i++)
+		add_answerer(listener, answer_all);
 	atomic_fetch_add(&readers, 1);
 	atomic_fetch_add(&idle_readers, 1);
 	read_all((void *)(intptr_t)end);

@@ -28,24 +28,27 @@
 #define SECCOMP_IOCTL_NOTIF_SET_FLAGS SECCOMP_IOW(4, __u64)
 #endif
 
-void notified_begin(int listener)
+/* It fails before Linux 6.6, where any processor may be used. */
+static void wake_here(int listener, bool here)
 {
-	/* it fails before Linux 6.6, where another processor may be woken */
-	(void)ioctl(listener, SECCOMP_IOCTL_NOTIF_SET_FLAGS, SECCOMP_USER_NOTIF_FD_SYNC_WAKE_UP);
+	(void)ioctl(listener, SECCOMP_IOCTL_NOTIF_SET_FLAGS, here ? SECCOMP_USER_NOTIF_FD_SYNC_WAKE_UP : 0UL);
 }
 
+/* Who waits for a call wakes up on the processor of the caller, which waits from then on, so no idle one has to be woken. The
+   caller wakes up on whichever is idle: on this one it could wait for another program, while others have nothing to do. */
 bool notified_next(int listener, struct seccomp_notif *call)
 {
 	for (;;) {
-		struct pollfd from = { .fd = listener, .events = POLLIN };
-		if (poll(&from, 1, -1) < 0 && errno != EINTR)
-			return false;
-		if (!(from.revents & POLLIN) && from.revents)
-			return false;
 		memset(call, 0, sizeof *call);
-		/* another thread may have taken it, or its caller was killed */
-		if ((from.revents & POLLIN) && ioctl(listener, SECCOMP_IOCTL_NOTIF_RECV, call) == 0)
+		wake_here(listener, true);
+		bool came = ioctl(listener, SECCOMP_IOCTL_NOTIF_RECV, call) == 0;
+		wake_here(listener, false);
+		if (came)
 			return true;
+		/* its caller was killed, or the program has ended; before Linux 6.11 the end is not seen here */
+		struct pollfd from = { .fd = listener, .events = POLLIN };
+		if (poll(&from, 1, 0) > 0 && !(from.revents & POLLIN))
+			return false;
 	}
 }
 
@@ -183,7 +186,10 @@ static bool answer_open(int listener, const struct seccomp_notif *call)
 	pid_t thread = (pid_t)call->pid;
 	if (!read_open(call, &asked))
 		return false;
-	cleanup_fd int file = opening_find(thread, asked.directory, asked.path, !(asked.flags & O_NOFOLLOW), asked.resolve);
+	bool follows = !(asked.flags & O_NOFOLLOW);
+	if (asked.resolve == 0 && opening_stays_outside_proc(thread, asked.directory, asked.path, follows))
+		return false;
+	cleanup_fd int file = opening_find(thread, asked.directory, asked.path, follows, asked.resolve);
 	if (file < 0)
 		return answer_no_memory(listener, call);
 	cleanup_fd int text = procfiles_text(thread, file);

@@ -5,9 +5,7 @@
 #include <linux/seccomp.h>
 #include <stdbool.h>
 
-/* Before the first call: who answers one wakes up on the processor of the caller, which waits, so no idle one has to be woken. */
-void notified_begin(int listener);
-/* Waits for the next call. False once the program has ended. */
+/* Waits for the next call; one thread at a time. False once the program has ended. */
 bool notified_next(int listener, struct seccomp_notif *call);
 void notified_answer(int listener, const struct seccomp_notif *call);
 void notified_let_through(int listener, const struct seccomp_notif *call);

@@ -105,14 +105,18 @@ int opening_of_descriptor(pid_t thread, int fd)
 	return open_of(thread, what);
 }
 
+static bool are_same(const struct statx *one, const struct statx *other)
+{
+	return one->stx_ino == other->stx_ino && one->stx_mnt_id == other->stx_mnt_id &&
+		one->stx_dev_minor == other->stx_dev_minor && one->stx_dev_major == other->stx_dev_major;
+}
+
 static bool is_same(int a, int b)
 {
 	struct statx one, other;
 	int how = AT_EMPTY_PATH | AT_STATX_DONT_SYNC | AT_NO_AUTOMOUNT;
 	return statx(a, "", how, STATX_INO | STATX_MNT_ID, &one) == 0 &&
-		statx(b, "", how, STATX_INO | STATX_MNT_ID, &other) == 0 && one.stx_ino == other.stx_ino &&
-		one.stx_mnt_id == other.stx_mnt_id && one.stx_dev_minor == other.stx_dev_minor &&
-		one.stx_dev_major == other.stx_dev_major;
+		statx(b, "", how, STATX_INO | STATX_MNT_ID, &other) == 0 && are_same(&one, &other);
 }
 
 static bool is_same_mount(int a, int b)
@@ -299,6 +303,47 @@ static int open_start(pid_t thread, int root, int directory, const char *path, u
 	if (path[0] == '/' && !(resolve & RESOLVE_IN_ROOT))
 		return resolve & RESOLVE_BENEATH ? -1 : fcntl(root, F_DUPFD_CLOEXEC, 0);
 	return directory == AT_FDCWD ? open_of(thread, "cwd") : opening_of_descriptor(thread, directory);
+}
+
+/* ---------------------------------------------------------------- a path that crosses no mount */
+
+static struct {
+	int fd; /* -1: it is of /proc, or not known */
+	struct statx is;
+} own_root = { .fd = -1 };
+
+static bool is_own_root(const char *path)
+{
+	struct statx is;
+	return statx(AT_FDCWD, path, AT_STATX_DONT_SYNC | AT_NO_AUTOMOUNT, STATX_INO | STATX_MNT_ID, &is) == 0 &&
+		are_same(&is, &own_root.is);
+}
+
+void opening_begin(void)
+{
+	int how = AT_EMPTY_PATH | AT_STATX_DONT_SYNC | AT_NO_AUTOMOUNT;
+	own_root.fd = open("/", O_PATH | O_CLOEXEC);
+	if (own_root.fd >= 0 &&
+		(is_proc(own_root.fd) || statx(own_root.fd, "", how, STATX_INO | STATX_MNT_ID, &own_root.is)))
+		close_at(&own_root.fd);
+}
+
+/* The number of the root's mount is that of no other, since the mount stays open. A relative path follows no links, since their
+   root is not known. */
+bool opening_stays_outside_proc(pid_t thread, int directory, const char *path, bool follows)
+{
+	char root[40];
+	bool is_absolute = path[0] == '/';
+	struct open_how how = { .flags = (uint64_t)(O_PATH | O_CLOEXEC | (follows ? 0 : O_NOFOLLOW)),
+		.resolve = RESOLVE_NO_XDEV | (is_absolute ? RESOLVE_IN_ROOT | RESOLVE_NO_MAGICLINKS : RESOLVE_NO_SYMLINKS) };
+	snprintf(root, sizeof root, "%d/root", thread);
+	if (own_root.fd < 0 || path[0] == 0 || !is_own_root(root))
+		return false;
+	cleanup_fd int from = is_absolute ? -1 : open_start(thread, -1, directory, path, 0);
+	if (!is_absolute && (from < 0 || is_proc(from)))
+		return false;
+	cleanup_fd int found = (int)syscall(SYS_openat2, is_absolute ? own_root.fd : from, path, &how, sizeof how);
+	return found >= 0 || errno == ENOENT;
 }
 
 /* If the thread has the root of this process, the kernel finds the file directly. The exceptions are files of /proc, where

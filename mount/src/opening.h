@@ -8,6 +8,10 @@
 #include <stdint.h>
 #include <sys/types.h>
 
+/* Before the first look. */
+void opening_begin(void);
+/* Whether the file is certainly not of /proc, or is not there, by the usual rules: most are known at little cost. */
+bool opening_stays_outside_proc(pid_t thread, int directory, const char *path, bool follows);
 /* A descriptor (O_PATH) of the file, or -1 and errno: ENOMEM only if memory did not suffice to find it. `resolve`: rules of
    openat2, of which RESOLVE_CACHED is left out. */
 int opening_find(pid_t thread, int directory, const char *path, bool follows, uint64_t resolve);

@@ -29,6 +29,7 @@
 #include <sys/mount.h>
 #include <sys/prctl.h>
 #include <sys/socket.h>
+#include <sys/syscall.h>
 #include <sys/wait.h>
 #include <unistd.h>
 
@@ -228,13 +229,16 @@ static int supervise(char **program, const struct wishes *wishes, int signals, i
 static void end_server(pid_t server, int end)
 {
 	int status;
+	/* if it fails, the server is looked for all the same */
+	cleanup_fd int ended = (int)syscall(SYS_pidfd_open, server, 0);
+	struct pollfd from = { .fd = ended, .events = POLLIN };
 	umount2(cgroup_mount, MNT_DETACH); /* it cannot fail: the program is in this namespace only if it may not unmount */
 	close(end);
 	for (int i = 0; i < PATIENCE; i++) {
 		if (waitpid(server, &status, WNOHANG))
 			return; /* it has ended, or was waited for by the tracer */
 		kill(server, SIGCONT); /* it cannot fail: it was not waited for */
-		usleep(10000);
+		poll(&from, 1, 10);
 	}
 	kill(server, SIGKILL); /* as above */
 	while (waitpid(server, &status, 0) < 0 && errno == EINTR)

@@ -1,4 +1,5 @@
 #include "shown.h"
+#include "cleanup.h"
 #include "engine.h"
 #include "tasks.h"
 #include "zombies.h"
@@ -7,14 +8,25 @@
 #include <stdint.h>
 #include <stdlib.h>
 #include <string.h>
+#include <sys/ioctl.h>
 #include <sys/syscall.h>
 #include <unistd.h>
 
-/* A first thread that ended before the others keeps its number, and has no memory any more: the kernel says so without looking
-   up a path. */
+#ifndef PIDFD_GET_UTS_NAMESPACE
+#define PIDFD_GET_UTS_NAMESPACE _IO(0xFF, 10) /* Linux 6.11 */
+#endif
+
+/* A first thread that ended before the others keeps its number, and has no memory and no namespaces any more. The kernel says so
+   without looking up a path; the latter also of a program whose memory this process may not look at. */
 static bool has_ended(pid_t process)
 {
-	return syscall(SYS_move_pages, process, 0UL, NULL, NULL, NULL, 0) != 0 && errno == EINVAL;
+	if (syscall(SYS_move_pages, process, 0UL, NULL, NULL, NULL, 0) == 0)
+		return false;
+	if (errno != EPERM)
+		return errno == EINVAL;
+	cleanup_fd int fd = (int)syscall(SYS_pidfd_open, process, 0);
+	cleanup_fd int space = fd < 0 ? -1 : ioctl(fd, PIDFD_GET_UTS_NAMESPACE, 0);
+	return fd >= 0 && space < 0 && errno == ESRCH;
 }
 
 static bool is_listed(pid_t pid, bool threads)

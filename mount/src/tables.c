@@ -206,30 +206,63 @@ static const struct form *form_of(const char *what)
 	return f;
 }
 
-/* One line: the mount as the kernel would show a cgroup2 mount; the machine's own are left out. */
-static void put_mount(FILE *out, char *line, const struct form *f, const char *root)
-{
+struct line {
+	char *tail; /* of mountinfo: from its dash on */
 	char place[LONG], type[64], source[64];
+};
+
+static bool read_line(char *line, const struct form *f, struct line *out)
+{
+	out->tail = f == &forms[1] ? strstr(line, " - ") : line;
+	return out->tail && take_word(line, f->place, out->place, sizeof out->place) &&
+		take_word(out->tail, f->type, out->type, sizeof out->type) &&
+		take_word(out->tail, f->source, out->source, sizeof out->source);
+}
+
+static bool is_hierarchy(const struct line *l)
+{
+	return strcmp(l->type, "fuse.cgroup2") == 0 && strcmp(l->source, cgroup_source) == 0;
+}
+
+static bool is_usual(const struct line *l)
+{
+	return strcmp(l->place, cgroup_mount) == 0;
+}
+
+/* Ends each line by a zero byte. Returns the first that is the hierarchy at its usual place, or NULL. */
+static const char *split(char *kernels, const struct form *f)
+{
+	const char *found = NULL;
+	struct line l;
+	for (char *rest = kernels, *line; (line = strsep(&rest, "\n"));)
+		if (!found && read_line(line, f, &l) && is_hierarchy(&l) && is_usual(&l))
+			found = line;
+	return found;
+}
+
+/* One line: the mount as the kernel would show a cgroup2 mount. The machine's own are left out, and so is the tmpfs in which it has
+   those of version 1: the hierarchy, `first`, covers that. One that the program mounts is above the hierarchy, so it comes later. */
+static void put_mount(FILE *out, char *line, const struct form *f, const char *root, const char *first)
+{
 	bool is_info = f == &forms[1], is_stats = f == &forms[2];
-	char *tail = is_info ? strstr(line, " - ") : line;
-	if (!tail || !take_word(line, f->place, place, sizeof place) || !take_word(tail, f->type, type, sizeof type) ||
-		!take_word(tail, f->source, source, sizeof source)) {
+	struct line l;
+	if (!read_line(line, f, &l)) {
 		fprintf(out, "%s\n", line);
 		return;
 	}
-	if (strcmp(type, "cgroup") == 0 || strcmp(type, "cgroup2") == 0)
+	if (strcmp(l.type, "cgroup") == 0 || strcmp(l.type, "cgroup2") == 0)
 		return;
-	if (strcmp(type, "tmpfs") == 0 && strcmp(place, cgroup_mount) == 0)
+	if (strcmp(l.type, "tmpfs") == 0 && is_usual(&l) && first && line < first)
 		return;
-	if (strcmp(type, "fuse.cgroup2") != 0 || strcmp(source, cgroup_source) != 0)
+	if (!is_hierarchy(&l))
 		fprintf(out, "%s\n", line);
 	else if (is_info) {
-		*tail = 0;
+		*l.tail = 0;
 		put_info(out, line, root);
 	} else if (is_stats)
-		fprintf(out, "device cgroup2 mounted on %s with fstype cgroup2\n", place);
+		fprintf(out, "device cgroup2 mounted on %s with fstype cgroup2\n", l.place);
 	else
-		fprintf(out, "cgroup2 %s cgroup2 rw,nosuid,nodev,noexec,relatime 0 0\n", place);
+		fprintf(out, "cgroup2 %s cgroup2 rw,nosuid,nodev,noexec,relatime 0 0\n", l.place);
 }
 
 /* The whole of the kernel's table, ended by a zero byte. 0 or -errno */
@@ -265,9 +298,13 @@ int tables_read(long number, int (*keep)(void *, const char *, size_t), void *to
 	FILE *out = fault ? NULL : open_memstream(&text, &size);
 	if (!out)
 		return fault ? fault : -ENOMEM;
-	char *rest = kernels, *line;
-	while ((line = strsep(&rest, "\n")) && (rest || *line))
-		put_mount(out, line, form_of(t->is.what), spaces_root(t->is.space));
+	const char *end = kernels + strlen(kernels);
+	const struct form *form = form_of(t->is.what);
+	const char *first = split(kernels, form);
+	for (char *line = kernels, *next; line < end; line = next) {
+		next = line + strlen(line) + 1; /* before the line is changed */
+		put_mount(out, line, form, spaces_root(t->is.space), first);
+	}
 	bool incomplete = ferror(out);
 	incomplete |= fclose(out) != 0;
 	return incomplete || !text ? -ENOMEM

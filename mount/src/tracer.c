@@ -4,7 +4,7 @@
    stops, for signals, and for its sockets to the server and to the helper. It waits for nothing else, since all threads of the
    program wait for it. So it looks up no path, opens, reads and writes no file, and does not touch the program's memory: each can be
    in a file system of the program, or behind a lock that the kernel holds for a thread that waits for one. (One look-up in
-   /proc remains on kernels before 6.11: see spaces_of and halts.c.)
+   /proc remains on kernels before 6.11: see spaces_of.)
    It waits for an answer of the server, which waits for nobody but the engine's lock (serve.c). A server that the program has
    stopped is continued meanwhile.
    The helper's threads may block on the program. What they are asked can be given up, and there are enough of them. */
@@ -82,7 +82,9 @@ static void on_seccomp(struct thread *t, long number, const uint64_t args[6])
 {
 	struct registers before;
 	int result = strict_begin(t, number, args);
-	if (result > 0)
+	if (t->installs != NO_FILTER)
+		stops_run_call(t->id);
+	else if (result > 0)
 		stops_run(t->id, 0);
 	else if (registers_read(t->id, &before)) /* else it was killed */
 		stops_return(t->id, &before, result);
@@ -131,7 +133,8 @@ static void leaves(const struct thread *t)
 }
 
 /* All other threads of the process have been killed. If the caller of execve was not the first thread, it has the first
-   one's number from now on. The first thread, whatever it was doing, no longer exists, and its death is not reported. */
+   one's number from now on, and keeps its filters. The first thread, whatever it was doing, no longer exists, and its death is not
+   reported. */
 static void on_exec(struct thread *t)
 {
 	pid_t former = stops_message(t->id);
@@ -139,6 +142,8 @@ static void on_exec(struct thread *t)
 	halts_vfork_over(t);
 	struct thread *other = former == t->id ? NULL : threads_find(former);
 	if (other) {
+		t->strict = other->strict;
+		t->filtered = other->filtered;
 		births_abandon(other);
 		halts_forget(other);
 		leaves(other);
@@ -176,6 +181,9 @@ static void at_call(struct thread *t)
 	if (t->unshares)
 		link_space(call.op == PTRACE_SYSCALL_INFO_EXIT && !call.exit.is_error ? spaces_of(t->id) : 0, unshare_of(t));
 	t->unshares = false;
+	if (t->installs != NO_FILTER && call.op == PTRACE_SYSCALL_INFO_EXIT && call.exit.rval == 0)
+		strict_filtered(t);
+	t->installs = NO_FILTER;
 	stops_run(t->id, 0);
 }
 

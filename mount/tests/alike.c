@@ -1,9 +1,10 @@
 /* alike WHAT: calls about processes and signals, one line for what came of each. alike.py compares what this says alone and under
-   `makhloeum run`. */
+   `makhloeum run`. `alike under PROGRAM ..` executes a program with a filter. */
 #include "filters.h"
 #include <fcntl.h>
 #include <linux/sched.h>
 #include <poll.h>
+#include <pthread.h>
 #include <signal.h>
 #include <stdbool.h>
 #include <stdlib.h>
@@ -469,6 +470,205 @@ static void clones(void)
 	waitpid((pid_t)pid, NULL, 0);
 }
 
+/* ---------------------------------------------------------------- strict mode beside filters */
+
+static int told = -1; /* who asks for strict mode writes here what came of it */
+
+static void ask_for_strict(void)
+{
+	int result = prctl(PR_SET_SECCOMP, SECCOMP_MODE_STRICT, 0, 0, 0) ? errno : 0;
+	if (write(told, &result, sizeof result) < 0)
+		_exit(4);
+	syscall(SYS_exit, 0);
+}
+
+static void execute(void)
+{
+	char where[16];
+	snprintf(where, sizeof where, "%d", told);
+	execl("/proc/self/exe", "alike", "strict", where, (char *)NULL);
+	_exit(4);
+}
+
+/* Installs a filter that allows all. */
+enum { BY_PRCTL = -1 };
+
+static long install(long flags)
+{
+	static struct sock_filter code[] = { BPF_STMT(BPF_RET | BPF_K, SECCOMP_RET_ALLOW) };
+	static const struct sock_fprog program = { 1, code };
+	prctl(PR_SET_NO_NEW_PRIVS, 1, 0, 0, 0);
+	return flags == BY_PRCTL ? prctl(PR_SET_SECCOMP, SECCOMP_MODE_FILTER, &program, 0, 0)
+							 : syscall(SYS_seccomp, SECCOMP_SET_MODE_FILTER, flags, &program);
+}
+
+static void *call_it(void *call)
+{
+	((void (*)(void))call)();
+	return NULL;
+}
+
+/* A thread that does this. */
+static pthread_t begin(void (*call)(void))
+{
+	pthread_t thread;
+	if (pthread_create(&thread, NULL, call_it, (void *)call))
+		_exit(4);
+	return thread;
+}
+
+static void install_here(void)
+{
+	install(0);
+}
+static void install_by_prctl(void)
+{
+	install(BY_PRCTL);
+}
+static void install_for_all(void)
+{
+	install(SECCOMP_FILTER_FLAG_TSYNC);
+}
+static void install_with_a_log(void)
+{
+	install(SECCOMP_FILTER_FLAG_LOG);
+}
+static void install_twice(void)
+{
+	install(0);
+	install(0);
+}
+static void install_with_unknown_flags(void)
+{
+	install(1L << 30);
+}
+static void install_nothing(void)
+{
+	syscall(SYS_seccomp, SECCOMP_SET_MODE_FILTER, SECCOMP_FILTER_FLAG_TSYNC, NULL);
+	prctl(PR_SET_SECCOMP, SECCOMP_MODE_FILTER, NULL, 0, 0);
+}
+static void install_in_a_thread(void)
+{
+	pthread_join(begin(install_here), NULL);
+}
+static void install_for_all_in_a_thread(void)
+{
+	pthread_join(begin(install_for_all), NULL);
+}
+static void install_in_a_child(void)
+{
+	pid_t pid = fork();
+	if (pid == 0) {
+		install(SECCOMP_FILTER_FLAG_TSYNC);
+		_exit(0);
+	}
+	waitpid(pid, NULL, 0);
+}
+static void fork_after_it(void)
+{
+	install(0);
+	if (fork())
+		pause();
+}
+static void ask_in_a_thread_after_it(void)
+{
+	install(0);
+	begin(ask_for_strict);
+	pause();
+}
+static void ask_in_a_thread_before_it(void)
+{
+	begin(ask_for_strict);
+	pause();
+}
+static void execute_after_it(void)
+{
+	install(0);
+	execute();
+}
+static void execute_in_a_thread_after_it(void)
+{
+	install(0);
+	begin(execute);
+	pause();
+}
+static void install_and_execute(void)
+{
+	install(0);
+	execute();
+}
+static void execute_in_a_thread_that_has_it(void)
+{
+	begin(install_and_execute);
+	pause();
+}
+
+static int gate[2], shut[2];
+
+static void execute_once_told(void)
+{
+	char byte;
+	if (read(gate[0], &byte, 1) == 1)
+		execute();
+}
+static void execute_in_a_thread_without_it(void)
+{
+	begin(execute_once_told);
+	install(0);
+	if (write(gate[1], "x", 1) == 1)
+		pause();
+}
+static void execute_while_the_first_is_strict(void)
+{
+	char byte;
+	begin(execute_once_told);
+	if (prctl(PR_SET_SECCOMP, SECCOMP_MODE_STRICT, 0, 0, 0) == 0 && write(gate[1], "x", 1) == 1)
+		while (read(shut[0], &byte, 1) >= 0)
+			;
+}
+
+/* What a thread gets that asks for strict mode after each of these. */
+static void modes(void)
+{
+	static const struct {
+		const char *name;
+		void (*call)(void);
+	} all[] = { { "a filter", install_here }, { "by prctl", install_by_prctl }, { "for all threads", install_for_all },
+		{ "with a log", install_with_a_log }, { "two filters", install_twice },
+		{ "unknown flags", install_with_unknown_flags }, { "no filter", install_nothing },
+		{ "of another thread", install_in_a_thread }, { "of another for all", install_for_all_in_a_thread },
+		{ "of a child", install_in_a_child }, { "before a fork", fork_after_it },
+		{ "before a thread", ask_in_a_thread_after_it }, { "a thread without", ask_in_a_thread_before_it },
+		{ "before an exec", execute_after_it }, { "before a thread's exec", execute_in_a_thread_after_it },
+		{ "of the thread that execs", execute_in_a_thread_that_has_it },
+		{ "of the first thread while another execs", execute_in_a_thread_without_it },
+		{ "no filter, but the first thread is strict", execute_while_the_first_is_strict } };
+	for (size_t i = 0; i < sizeof all / sizeof *all; i++) {
+		int ends[2], result = -1;
+		if (pipe(ends) || pipe(gate) || pipe(shut))
+			exit(3);
+		fflush(stdout);
+		pid_t pid = fork();
+		if (pid == 0) {
+			setpgid(0, 0);
+			close(ends[0]);
+			told = ends[1];
+			all[i].call();
+			ask_for_strict();
+		}
+		setpgid(pid, pid); /* it fails if the child did it */
+		close(ends[1]);
+		if (read(ends[0], &result, sizeof result) != sizeof result)
+			puts("nobody says anything");
+		printf("%s: %s\n", all[i].name, result ? strerrorname_np(result) : "strict");
+		kill(-pid, SIGKILL);
+		waitpid(pid, NULL, 0);
+		int opened[] = { ends[0], gate[0], gate[1], shut[0], shut[1] };
+		for (size_t k = 0; k < sizeof opened / sizeof *opened; k++)
+			close(opened[k]);
+	}
+}
+
 /* ---------------------------------------------------------------- what a program begins with */
 
 static void inherits(void)
@@ -522,9 +722,15 @@ int main(int argc, char **argv)
 		const char *name;
 		void (*call)(void);
 	} all[] = { { "actions", actions }, { "news", news }, { "infos", infos }, { "waits", waits }, { "clones", clones },
-		{ "inherits", inherits } };
+		{ "modes", modes }, { "inherits", inherits } };
 	const char *what = argc > 1 ? argv[1] : "";
 	struct rlimit none = { 0, 0 };
+	if (strcmp(what, "strict") == 0 && argc > 2) {
+		told = atoi(argv[2]);
+		ask_for_strict();
+	}
+	if (strcmp(what, "under") == 0 && argc > 2)
+		return install(0) || execv(argv[2], argv + 2) ? 3 : 0;
 	if (strcmp(what, "inherits") != 0)
 		setrlimit(RLIMIT_CORE, &none);
 	for (size_t i = 0; i < sizeof all / sizeof *all; i++)

@@ -10,7 +10,7 @@ from support import AT, BUILT, PATIENCE, PROGRAM, finish, in_parallel, same, ste
 
 ALIKE, OPENS = os.path.join(BUILT, "alike"), os.path.join(BUILT, "opens")
 TEXT = "0::/a\n"
-WHAT = ("actions", "news", "infos", "waits", "clones", "inherits", "opens")
+WHAT = ("actions", "news", "infos", "waits", "clones", "modes", "filtered", "inherits", "opens")
 # The same calls in a group of a run, whose path /proc/self/cgroup has to show.
 INSIDE = "mkdir -p %s/a && echo 0 >%s/a/cgroup.procs && exec " % (AT, AT)
 
@@ -31,10 +31,17 @@ def said(*words):
 
 
 def compare(what):
-    alone = said(OPENS) if what == "opens" else said(ALIKE, what)
+    if what == "opens":
+        alone = said(OPENS)
+    elif what == "filtered":
+        alone = said(ALIKE, "under", ALIKE, "modes")
+    else:
+        alone = said(ALIKE, what)
     step("%s: it says something" % what, len(alone) > 12 and alone[-2:] == ["status 0", ""], alone[-2:])
     if what == "opens":
         run = said(PROGRAM, "run", "sh", "-c", INSIDE + '"$0" "$1"', OPENS, TEXT)
+    elif what == "filtered":  # by its caller
+        run = said(ALIKE, "under", PROGRAM, "run", ALIKE, "modes")
     elif what == "inherits":  # of its caller, so no shell is in between
         run = said(PROGRAM, "run", ALIKE, what)
     else:

@@ -48,10 +48,10 @@ def kept():
 
 def sized(what, wanted, call):
     """A call into a buffer of the right size, and into one that is a byte too small."""
-    room = ctypes.create_string_buffer(wanted)
-    same("%s: its size" % what, call(None, 0), wanted)
-    same("into as many bytes", call(room, wanted), wanted)
-    same("into one byte fewer", (call(room, wanted - 1), ctypes.get_errno()), (-1, errno.ERANGE))
+    room = ctypes.create_string_buffer(len(wanted))
+    same("%s: its size" % what, call(None, 0), len(wanted))
+    same("into as many bytes", (call(room, len(wanted)), room.raw), (len(wanted), wanted))
+    same("into one byte fewer", (call(room, len(wanted) - 1), ctypes.get_errno()), (-1, errno.ERANGE))
 
 
 def bounds():
@@ -74,10 +74,10 @@ def bounds():
     got = [error_of(os.setxattr, m.path("b", "cgroup.procs"), "user.n%d" % i, b"v") for i in range(129)]
     same("128 names of a file", (got[:128], got[128]), (["ok"] * 128, "ENOSPC"))
     same("another file", error_of(os.setxattr, m.path("b", "cgroup.stat"), "user.n", b"v"), "ok")
-    sized("a value", 65536, lambda to, size: libc.getxattr(m.path("a").encode(), b"user.large2", to, size))
+    sized("a value", b"x" * 65536, lambda to, size: libc.getxattr(m.path("a").encode(), b"user.large2", to, size))
     os.mkdir(m.path("c"))
     os.setxattr(m.path("c"), "user.x", b"1")
-    sized("a list", len("user.x") + 1, lambda to, size: libc.listxattr(m.path("c").encode(), to, size))
+    sized("a list", b"user.x\0", lambda to, size: libc.listxattr(m.path("c").encode(), to, size))
     m.end()
 
 
@@ -121,7 +121,7 @@ def hidden():
     same("of a file", error_of(os.getxattr, AT + "/a/pids.max", name), "ENOTSUP")
     same("nobody sets it", error_of(os.setxattr, AT + "/a", name, b"/"), "ENOTSUP")
     same("nor removes it", error_of(os.removexattr, AT + "/a", name), "ENOTSUP")
-    sized("it", 4, lambda to, size: libc.getxattr((AT + "/a/b").encode(), name.encode(), to, size))
+    sized("it", b"/a/b", lambda to, size: libc.getxattr((AT + "/a/b").encode(), name.encode(), to, size))
     fd = os.open(AT + "/a/b", os.O_RDONLY)
     os.rmdir(AT + "/a/b")
     same("of a removed group", error_of(os.getxattr, fd, name), "ENOENT")

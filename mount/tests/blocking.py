@@ -4,6 +4,7 @@ import ast
 import ctypes
 import glob
 import os
+import re
 import shutil
 import signal
 import socket
@@ -46,7 +47,11 @@ def forks(times=20):
 
 def stat_of(pid):
     """The words of /proc/PID/stat after the name: the state first, and the flags of the thread as the seventh."""
-    return open("/proc/%d/stat" % pid, "rb").read().rpartition(b")")[2].split()
+    return open("/proc/%s/stat" % pid, "rb").read().rpartition(b")")[2].split()
+
+
+def other_thread(pid):
+    return next(int(n) for n in os.listdir("/proc/%d/task" % pid) if int(n) != pid)
 
 
 def holder(*words):
@@ -151,23 +156,65 @@ def leaderless():
     left.kill()
 
 
-def ending():
-    """The first thread of a process is just ending when the process is frozen."""
+def leader(*words):
+    """A process in /a whose first thread ends, and another stays."""
     os.mkdir(AT + "/a")
-    p = subprocess.Popen(
-        [BLOCKING, "leader", os.path.dirname(PAGE) + "/slow"],
-        stdin=subprocess.PIPE,
-        stdout=subprocess.PIPE,
-        preexec_fn=lambda: into("/a"),
-    )
+    p = subprocess.Popen(words, stdin=subprocess.PIPE, stdout=subprocess.PIPE, preexec_fn=lambda: into("/a"))
     p.stdout.read(1)
     p.stdin.write(b"x")
     p.stdin.flush()
     step("the thread is ending", until(lambda: int(stat_of(p.pid)[6]) & PF_EXITING))
+    return p
+
+
+def ending():
+    """The first thread of a process is just ending when the process is frozen."""
+    p = leader(BLOCKING, "leader", os.path.dirname(PAGE) + "/slow")
     write(AT + "/a/cgroup.freeze", b"1")
     step("it is frozen", until(lambda: read(AT + "/a/cgroup.events") == b"populated 1\nfrozen 1\n"))
     write(AT + "/a/cgroup.freeze", b"0")
     same("and thawed", read(AT + "/a/cgroup.events"), b"populated 1\nfrozen 0\n")
+    p.kill()
+
+
+def clearing():
+    """The same, and its end is held up while it still has memory. Nobody else does anything that the supervisor hears of."""
+
+    def freeze(p):
+        write(AT + "/a/cgroup.freeze", b"1")
+        other = "%d/task/%d" % (p.pid, other_thread(p.pid))
+        step("its other thread has stopped", until(lambda: stat_of(other)[0] == b"t"))
+        step("others run, so the supervisor has looked at it", forks(1))
+        same("it is not frozen", read(AT + "/a/cgroup.events"), b"populated 1\nfrozen 0\n")
+
+    p = leader(BLOCKING, "cleared", PAGE)
+    freeze(p)
+    write(AT + "/a/cgroup.freeze", b"0")
+    step("once it is thawed, the supervisor rests", rests())
+    freeze(p)
+    p.kill()
+    same("it is killed", p.wait(PATIENCE), -signal.SIGKILL)
+    step("then the supervisor rests", rests())
+    os.rmdir(AT + "/a")
+    stalled = os.path.dirname(PAGE)
+    p = leader(BLOCKING, "cleared", stalled + "/late", stalled + "/kept")
+    freeze(p)
+    time.sleep(0.2)  # what the supervisor heard of the fork is over
+    same("its end goes on", os.path.exists(stalled + "/go"), False)
+    step("it is frozen", until(lambda: read(AT + "/a/cgroup.events") == b"populated 1\nfrozen 1\n"))
+    same("while a file of its first thread is closed", stat_of(p.pid)[0] in (b"S", b"D"), True)
+    step("the supervisor rests", rests())
+    same("that ends", os.path.exists(stalled + "/close"), False)
+    p.kill()
+
+
+def ended():
+    """The first thread has ended, of a program that its user may not read."""
+    p = leader(BLOCKING + "-unread", "leader", PAGE)
+    step("it has ended", until(lambda: stat_of(p.pid)[0] == b"Z"))
+    same("the other one is listed", read(AT + "/a/cgroup.threads"), b"%d\n" % other_thread(p.pid))
+    write(AT + "/a/cgroup.freeze", b"1")
+    step("it is frozen", until(lambda: read(AT + "/a/cgroup.events") == b"populated 1\nfrozen 1\n"))
     p.kill()
 
 
@@ -228,6 +275,34 @@ def opening():
     same("the text of the 501st, and a limit", ran.stdout, b"0::/a\nEPERM\n")
     into("")
     step("others still run", forks())
+
+
+def resting():
+    """An open waits for a second, and before it there was none: others are answered meanwhile. Afterwards each call still wakes one
+    thread; a thread that looks every millisecond wakes too."""
+    helper = max(own_of(tracer()), key=lambda pid: len(os.listdir("/proc/%d/task" % pid)))
+
+    def wakes():
+        tasks = glob.glob("/proc/%d/task/*/status" % helper)
+        return sum(int(re.search(r"^voluntary_ctxt_switches:\s*(\d+)", open(t).read(), re.M)[1]) for t in tasks)
+
+    def each():
+        """How often the helper wakes for an open."""
+        opens, began, before = 2000, time.monotonic(), wakes()
+        for _ in range(opens):
+            os.close(os.open("/", os.O_RDONLY))
+        return (wakes() - before - 2000 * (time.monotonic() - began)) / opens
+
+    before_it = 0
+    for i in range(3):
+        time.sleep(0.05)
+        late = Beside(lambda: error_of(os.open, os.path.dirname(PAGE) + "/hidden%d" % i, os.O_RDONLY))
+        time.sleep(0.1)
+        same("another open", Beside(lambda: read("/proc/self/cgroup")).result(), b"0::/\n")
+        before_it += late.thread.is_alive()
+        same("the open that waits", late.result(), "ENOENT")
+    step("another open is answered while one waits", before_it > 0)
+    same("the threads that an open wakes", round(max(each(), 1)), 1)
 
 
 def stopped():
@@ -346,11 +421,14 @@ INSIDE = {
     spaces: ["--root"],
     leaderless: [],
     ending: [],
+    clearing: [],
+    ended: [],
     reading: [],
     unread: [],
     waiting: [],
     crowded: [],
     opening: [],
+    resting: [],
     stopped: [],
     stopping: [],
     elsewhere: ["--root"],

@@ -1,9 +1,11 @@
 """Zombies under `makhloeum run`: what counts them, what lists them, and when they are gone, by each way in which a process ends. This
 file is also the program (dead.py inside NAME)."""
+import ctypes
 import os
 import select
 import signal
 import threading
+import time
 
 from support import AT, PATIENCE, clone_into, error_of, finish, inside, into, libc, own_of, read, run_each, same
 from support import step, until, write
@@ -258,7 +260,45 @@ def unheard():
     step("none of them counts any more", until(lambda: count("/many") == 1), count("/many"))
 
 
-INSIDE = (ways, beside, removed, unwaited, told, waited, unheard)
+def born():
+    """A kill of a group reaches a child that is just being made there, by a parent elsewhere: the supervisor is stopped while it
+    makes one, at a time at which the child is there and is not listed yet."""
+    os.mkdir(AT + "/p")
+    group, supervisor, (r, w) = os.open(AT + "/p", os.O_RDONLY), os.getppid(), os.pipe()
+    maker = os.fork()
+    if maker == 0:
+        args = (ctypes.c_uint64 * 11)(0x200000000, 0, 0, 0, signal.SIGCHLD, 0, 0, 0, 0, 0, group)  # CLONE_INTO_CGROUP
+        while os.read(r, 1):
+            pid = libc.syscall(435, args, 88)
+            while pid == 0:
+                libc.pause()
+            os.waitpid(pid, 0)
+    children = lambda: read("/proc/%d/task/%d/children" % (maker, maker)).split()
+    listed = lambda: read(AT + "/p/cgroup.procs").split()
+    reached, lives = 0, False
+    for turn in range(600):
+        os.write(w, b"x")
+        time.sleep(turn % 60 * 0.00005)
+        os.kill(supervisor, signal.SIGSTOP)
+        until(lambda: b"T" in read("/proc/%d/stat" % supervisor).split()[:3])
+        is_between = children() != [] and listed() == []
+        if is_between:
+            write(AT + "/p/cgroup.kill", b"1")
+        os.kill(supervisor, signal.SIGCONT)
+        if not is_between:
+            until(listed)
+            write(AT + "/p/cgroup.kill", b"1")
+        lives = not until(lambda: children() == [])
+        reached += is_between
+        if lives or reached == 3:
+            break
+    print("  %d kills reached a child that was being made, in %d turns" % (reached, turn + 1))
+    same("such a child lives", lives, False)
+    os.kill(maker, signal.SIGKILL)
+    os.waitpid(maker, 0)
+
+
+INSIDE = (ways, beside, removed, unwaited, told, waited, unheard, born)
 inside(*INSIDE)
 run_each(dict.fromkeys(INSIDE, ["--control"]), lanes=3)
 finish()

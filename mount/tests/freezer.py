@@ -325,6 +325,44 @@ def vforked():
     shutil.rmtree(home)
 
 
+EXECS = """
+import ctypes, os, sys, threading
+libc = ctypes.CDLL(None)
+actions, pid, words = ctypes.create_string_buffer(256), ctypes.c_int(), (ctypes.c_char_p * 3)(b"sleep", b"600", None)
+libc.posix_spawn_file_actions_init(actions)
+libc.posix_spawn_file_actions_addopen(actions, 9, sys.argv[1].encode(), os.O_WRONLY, 0)
+spawn = lambda: libc.posix_spawn(ctypes.byref(pid), b"/bin/sleep", actions, None, words, None)
+threading.Thread(target=spawn).start()
+sys.stdin.readline()
+os.execv("/bin/sleep", ["sleep", "600"])
+"""
+
+
+def executed():
+    """A thread that waits for its child's exec is killed by the exec of another thread. The new program can be frozen."""
+    os.mkdir(AT + "/a")
+    os.mkdir(AT + "/b")
+    home = tempfile.mkdtemp()
+    os.mkfifo(home + "/fifo")
+    parent = subprocess.Popen(
+        [sys.executable, "-c", EXECS, home + "/fifo"],
+        stdin=subprocess.PIPE,
+        preexec_fn=lambda: write(AT + "/a/cgroup.procs", b"0\n"),
+    )
+    there = lambda: [int(p) for p in read(AT + "/a/cgroup.procs").split() if int(p) != parent.pid]
+    step("it has a child", until(there))
+    write(AT + "/b/cgroup.procs", b"%d\n" % there()[0])
+    parent.stdin.write(b"\n")
+    parent.stdin.close()
+    step("it is another program", until(lambda: line_of(parent.pid).startswith(b"sleep")))
+    freeze("/a", 1)
+    becomes("which is frozen", "/a", FROZEN)
+    for group in ("/a", "/b"):
+        write(AT + group + "/cgroup.kill", b"1")
+    same("it is killed", parent.wait(PATIENCE), -signal.SIGKILL)
+    shutil.rmtree(home)
+
+
 def again():
     """A process that is thawed and frozen again before its supervisor looks stays frozen."""
     os.mkdir(AT + "/a")
@@ -492,7 +530,7 @@ def undone():
     one.end()
 
 
-INSIDE = (stops, moves, kinds, vforked, again, signals, itself, first, told, many, wide, undone)
+INSIDE = (stops, moves, kinds, vforked, executed, again, signals, itself, first, told, many, wide, undone)
 if sys.argv[1:2] == ["inside"]:
     {t.__name__: t for t in INSIDE}[sys.argv[2]]()
     for one in runner:

@@ -10,7 +10,7 @@ import sys
 import tempfile
 
 from support import AT, BUILT, CGREPLAY, PATIENCE, PROGRAM
-from support import error_of, finish, into, libc, read, same, status_within, step, tracer, until, write
+from support import error_of, finish, into, libc, own_of, read, same, status_within, step, tracer, until, write
 
 ME = os.path.realpath(__file__)
 HOSTILE, HANGS, STALLED = (os.path.join(BUILT, n) for n in ("hostile", "hangs", "stalled"))
@@ -138,6 +138,7 @@ def zombies():
     os.mkdir(AT + "/b")
     child = zombie_in("/b")
     same("a group with only zombies", (read(AT + "/b/cgroup.events"), count("/b")), (b"populated 0\nfrozen 0\n", 1))
+    same("it has no threads", read(AT + "/b/cgroup.threads"), b"")
     same("one moves nowhere", error_of(write, AT + "/a/cgroup.procs", b"%d\n" % child), "ok")
     same("and does not hold its group", error_of(os.rmdir, AT + "/b"), "ok")
     os.waitpid(child, 0)
@@ -210,9 +211,20 @@ def texts():
     )
     same("opened as if to create it", os.read(os.open("/proc/self/cgroup", os.O_RDONLY | os.O_CREAT), 99), b"0::/a\n")
     same("opened to write too", error_of(os.open, "/proc/self/cgroup", os.O_RDWR), "EACCES")
-    os.chdir("/proc/self")
-    same("from /proc/self", error_text("cgroup"), "0::/a\n")
-    os.chdir("/")
+    for directory, name in (
+        ("/proc/self", "cgroup"),
+        ("/proc/self", "../self/cgroup"),
+        ("/proc", "self/cgroup"),
+        (home, "link"),
+        (home, "proc/self/cgroup"),
+        (home, "../" * 20 + "proc/self/cgroup"),
+        ("/", "proc/self/cgroup"),
+    ):
+        os.chdir(directory)
+        same("%s from %s" % (name, directory.replace(home, "HOME")), error_text(name), "0::/a\n")
+        os.chdir("/")
+        at = os.open(directory, os.O_PATH | os.O_DIRECTORY)
+        same("by a descriptor of it", os.read(os.open(name, os.O_RDONLY, dir_fd=at), 99), b"0::/a\n")
     for name in (
         "/etc/mtab",
         "/proc/mounts",
@@ -259,6 +271,60 @@ def full_trace():
     made, strangers = map(int, ran.stdout.split())
     step("of 200 forks as many are made as the trace has room for", 5 < made <= told < 100, (made, told))
     step("the others fail before there is a child, but the first", strangers <= 1, strangers)
+
+
+FILLED = """import os, sys, time
+at = "/sys/fs/cgroup/a"
+os.mkdir(at)
+r, w = os.pipe()
+pid = os.fork()
+if pid == 0:
+    open(at + "/cgroup.procs", "w").write("0")
+    os.write(w, b"x")
+    time.sleep(600)
+os.read(r, 1)
+print("ready", flush=True)
+sys.stdin.readline()
+os.kill(pid, 9)
+os.waitpid(pid, 0)
+for _ in range(3):
+    time.sleep(0.05)
+    try:
+        print(open(at + "/pids.current").read())
+    except OSError:
+        pass
+print("ended", flush=True)
+sys.stdin.readline()
+for _ in range(1000):
+    if open(at + "/pids.current").read() == "0\\n":
+        break
+    time.sleep(0.01)
+print(repr((open(at + "/pids.current").read(), open(at + "/cgroup.procs").read())))
+os.rmdir(at)
+"""
+
+
+def full_for_a_while():
+    """A process ends while the trace can't be written. Once there is room, its exit is in the trace, and it counts no more."""
+    home = tempfile.mkdtemp()
+    trace, errors = home + "/trace", home + "/errors"
+    p = subprocess.Popen(
+        [PROGRAM, "run", "--trace", trace, sys.executable, "-c", FILLED],
+        stdin=subprocess.PIPE,
+        stdout=subprocess.PIPE,
+        stderr=open(errors, "w"),
+    )
+    same("its child is in a group", p.stdout.readline(), b"ready\n")
+    hard = resource.getrlimit(resource.RLIMIT_FSIZE)[1]
+    for limit, said in ((os.path.getsize(trace), b"ended\n"), (hard, None)):
+        for pid in own_of(p.pid):
+            resource.prlimit(pid, resource.RLIMIT_FSIZE, (limit, hard))
+        p.stdin.write(b"\n")
+        p.stdin.flush()
+        if said:
+            same("it ends without a line", (p.stdout.readline(), b"exit" in read(trace)), (said, False))
+    same("then it is gone", (p.communicate()[0], p.returncode), (b"('0\\n', '')\n", 0))
+    same("in the trace too", len(re.findall(r"^exit ", open(trace).read(), re.M)), 1)
 
 
 HOLD = """import ctypes, errno, os
@@ -337,7 +403,7 @@ for test in INSIDE:
                 "cgreplay gives the same answers",
                 subprocess.run(CGREPLAY, stdin=lines, stdout=subprocess.PIPE).stdout == wanted.read(),
             )
-for test in (full_trace, taken_hold, stalled):
+for test in (full_trace, full_for_a_while, taken_hold, stalled):
     if not sys.argv[1:] or test.__name__ in sys.argv[1:]:
         test()
 finish()

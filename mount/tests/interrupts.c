@@ -305,9 +305,12 @@ static const struct {
 	{ "splice", NULL, in_splice, EAGAIN },
 };
 
+static volatile sig_atomic_t handled_one;
+
 static void on_alarm(int unused)
 {
 	(void)unused;
+	handled_one = 1;
 }
 
 /* Waits until the child sleeps in its call, or has ended: on a busy machine it may be over before it was seen. */
@@ -325,6 +328,14 @@ static void until_it_sleeps(pid_t pid)
 		if (n <= 0 || (atomic_load(ready) && end && end[1] && (end[2] == 'S' || end[2] == 'Z')))
 			return;
 	}
+}
+
+/* What a call has come to: 0, its errno, or NO_HANDLER for an EINTR though no handler ran. */
+enum { NO_HANDLER = 200 };
+
+static int fault_of(long result)
+{
+	return result >= 0 ? 0 : errno == EINTR && !handled_one ? NO_HANDLER : errno;
 }
 
 /* Each call, in a process that gets this signal while it waits. Prints the calls that end otherwise than without it. */
@@ -345,7 +356,7 @@ static int signals(int which, int handled)
 			if (calls[i].before)
 				calls[i].before();
 			errno = 0;
-			_exit(calls[i].call() < 0 ? errno : 0);
+			_exit(fault_of(calls[i].call()));
 		}
 		until_it_sleeps(all[i]);
 		kill(all[i], which);

@@ -84,8 +84,11 @@ def of_mount():
 
     def values_of_a_removed_group():
         os.mkdir(k + "/r")
-        write(k + "/r/memory.max", b"1m")
-        write(k + "/r/cpu.weight", b"7")
+        # so many that they are more than memory that was free before
+        for name in ("memory.min", "memory.low", "memory.high", "memory.max", "memory.swap.high", "memory.swap.max"):
+            write(k + "/r/" + name, b"1m")
+        for name, value in (("cpu.weight", b"7"), ("cpu.max", b"5000"), ("cpu.max.burst", b"5"), ("cpu.idle", b"1")):
+            write(k + "/r/" + name, value)
         write(k + "/r/cgroup.freeze", b"1")
         os.rmdir(k + "/r")
 

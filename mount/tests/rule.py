@@ -26,7 +26,6 @@ SERVER = """engine nodes tree listing control attributes owner remembered opened
 listed reported reserved tasks joined shown zombies place number scan lists files tables""".split()
 # What may stay, with the reason.
 ALLOWED = {
-    ("halts", "status_text"): "only if the program's memory may not be looked at",
     ("tracer", "usleep"): "at the end of the run, when all are killed",
 }
 

@@ -79,14 +79,14 @@ def pairs():
         same("from %s" % (root or "/"), ran.stdout.decode().split(), ["0::" + seen_from(root, g) for g in groups])
 
 
-def without_effect(call):
-    """What a call returns in a child that has all its capabilities, but none in effect."""
+def without_effect(call, but=0):
+    """What a call returns in a child that has all its capabilities, but none in effect except these."""
     r, w = os.pipe()
     pid = os.fork()
     if pid == 0:
         head, data = (ctypes.c_uint32 * 2)(0x20080522, 0), (ctypes.c_uint32 * 6)()
         libc.capget(head, data)
-        data[0] = data[3] = 0
+        data[0], data[3] = but, 0
         libc.capset(head, data)
         os.write(w, call().encode())
         os._exit(0)
@@ -211,6 +211,35 @@ def covered():
     )
 
 
+def rooted():
+    """A process whose root is another directory: in /proc, or above a mount of it."""
+    os.mkdir(AT + "/a")
+    into("/a")
+    home = tempfile.mkdtemp()
+    os.mkdir(home + "/proc")
+    same("a mount of /proc", libc.mount(b"/proc", (home + "/proc").encode(), None, 4096 | 16384, None), 0)
+    for root, name in (
+        ("/proc", "/self/cgroup"),
+        ("/proc", "self/cgroup"),
+        ("/proc/self", "/cgroup"),
+        (home, "/proc/self/cgroup"),
+        (home, "proc/self/cgroup"),
+        ("/", "/proc/self/cgroup"),
+    ):
+        r, w = os.pipe()
+        pid = os.fork()
+        if pid == 0:
+            os.chroot(root)
+            os.chdir("/")
+            os.write(w, read(name))
+            os._exit(0)
+        os.waitpid(pid, 0)
+        os.close(w)
+        same("%s below %s" % (name, root.replace(home, "HOME")), os.read(r, 99), b"0::/a\n")
+        os.close(r)
+    into("")
+
+
 def others():
     """Other file systems are mounted as the kernel mounts them for their caller."""
     home = tempfile.mkdtemp()
@@ -263,6 +292,12 @@ def others():
         ("an option that it does not have", b"none", at.encode(), b"tmpfs", b"nosuch=1", errno.EINVAL),
     ):
         same(name, (libc.mount(source, target, kind, 0, data), ctypes.get_errno()), (-1, wanted))
+    os.makedirs(home + "/closed/low")
+    os.chmod(home + "/closed", 0)
+    layers = ("lowerdir=%s/closed/low,upperdir=%s/up,workdir=%s/work" % (home, home, home)).encode()
+    overlay = lambda: error_of(mount, at, "overlay", layers)
+    same("a layer that its caller can't reach", without_effect(overlay, SYS_ADMIN), "EACCES")
+    same("one with a capability for it", (overlay(), libc.umount2(at.encode(), DETACH)), ("ok", 0))
     nowhere("tmpfs")
     same("without a source", libc.mount(None, at.encode(), b"tmpfs", 0, None), 0)
     source = next(x.split()[0] for x in open("/proc/self/mounts") if x.split()[1] == at)
@@ -384,6 +419,7 @@ def rewritten():
 
 
 DETACH, BIND, MOVE, REC = 2, 0x1000, 0x2000, 0x4000
+SYS_ADMIN = 1 << 21  # the capability
 
 
 def beneath():
@@ -489,8 +525,8 @@ def closed():
             same("a descriptor %r, dumpable %d" % (name.replace(str(held), "N"), dumpable), got, "ENOENT")
 
 
-def mount(where, kind="cgroup2"):
-    if libc.mount(b"none", where.encode(), kind.encode(), 0, None):
+def mount(where, kind="cgroup2", data=None):
+    if libc.mount(b"none", where.encode(), kind.encode(), 0, data):
         raise OSError(ctypes.get_errno(), "mount")
 
 
@@ -600,6 +636,7 @@ INSIDE = (
     namespaces,
     pairs,
     mounts,
+    rooted,
     others,
     rewritten,
     covered,

@@ -7,10 +7,11 @@ import select
 import stat
 import subprocess
 import sys
+import tempfile
 import time
 
 from on_kernel import new_group
-from support import AT, PATIENCE, PROGRAM, Mount, error_of, finish, libc, read, same, step, write
+from support import AT, PATIENCE, PROGRAM, Beside, Mount, error_of, finish, libc, read, same, step, write
 
 ME = os.path.realpath(__file__)
 READ, WRITTEN, BOTH = 0o444, 0o200, 0o644
@@ -212,6 +213,12 @@ def names():
     same("of 4,095", error_of(os.mkdir, "q" * rest), "ok")
     os.chdir("q" * rest)
     same("which works", (error_of(write, "pids.max", b"5"), read("pids.max")), ("ok", b"5\n"))
+    watch = libc.inotify_init()
+    libc.inotify_add_watch(watch, b"cgroup.events", 2)  # IN_MODIFY
+    write(m.control("fork"), b"1 2")
+    write("cgroup.procs", b"2")
+    same("and a watch there is told", (Beside(os.read, watch, 100).result() or b"")[4:8], b"\2\0\0\0")
+    os.close(watch)
     os.chdir("/")
     m.end()
 
@@ -318,6 +325,12 @@ def inside(user, group, space):
         same("a move of " + what, error_of(write, AT + "/h/cgroup.procs", value), wanted)
     same("who is there", read(AT + "/h/cgroup.procs"), b"%d\n" % me)
     same("of the supervisor", open("/proc/%d/cgroup" % supervisor).read(), "0::/\n")
+    with tempfile.TemporaryDirectory() as home:
+        os.mkdir("%s/%d" % (home, me))
+        for name in ("cgroup", "cpuset", "mounts"):
+            with open("%s/%d/%s" % (home, me, name), "w") as f:
+                f.write("mine\n")
+            same("a file of another system, PID/" + name, read("%s/%d/%s" % (home, me, name)), b"mine\n")
     for name, text in (("cgroup", "0::/h\n"), ("cpuset", "/\n")):
         fd = os.open("/proc/self/" + name, os.O_RDONLY)
         polled = select.poll()
@@ -460,7 +473,13 @@ def longest():
     same("it can go", error_of(os.rmdir, name), "ok")
     last = "m" * (4095 - 31 * 127 - 1)  # the longest path has 4,095 bytes
     os.mkdir(last)
+    watch = libc.inotify_init()
+    libc.inotify_add_watch(watch, last.encode() + b"/pids.events.local", 2)
+    write(last + "/pids.max", b"0")
     write(last + "/cgroup.procs", b"0")
+    same("a fork that its limit refuses", error_of(os.fork), "EAGAIN")
+    write(last + "/pids.max", b"max")
+    same("is told to a watch", (Beside(os.read, watch, 100).result() or b"")[4:8], b"\2\0\0\0")
     text = ("0::%s/%s\n" % (path[: 31 * 127], last)).encode()
     same("the text of the longest path", read("/proc/self/cgroup"), text)
     args[10] = os.open(last, os.O_RDONLY)
@@ -477,6 +496,23 @@ def longest():
     same("it can go", error_of(os.rmdir, last), "ok")
     ran = subprocess.run(["unshare", "-C", "cat", "/proc/self/cgroup"], stdout=subprocess.PIPE, timeout=PATIENCE)
     same("the root of a cgroup namespace", (ran.returncode, ran.stdout), (0, b"0::/\n"))
+
+
+def over():
+    """The tables list what the program mounts over the hierarchy, and no tmpfs of the machine below it."""
+    mounts = ("tmpfs mine", "cgroup2 x", "tmpfs again")
+    script = "".join("mount -t %s %s && " % (each, AT) for each in mounts) + "cat /proc/self/$1"
+    below = ["unshare", "-Urm", "sh", "-c", 'mount -t tmpfs below %s && exec "$@"' % AT, "sh"]
+    for what, form in (
+        ("mounts", r"(\S+) %s (\S+) .*"),
+        ("mountinfo", r".* %s \S+ - (\S+) (\S+) .*"),
+        ("mountstats", r"device (\S+) mounted on %s with fstype (\S+)"),
+    ):
+        words = [*below, PROGRAM, "run", "--root", "--", "sh", "-c", script, "sh", what]
+        ran = subprocess.run(words, stdout=subprocess.PIPE, timeout=4 * PATIENCE)
+        found = [" ".join(sorted(each)) for each in re.findall("^" + form % AT + "$", ran.stdout.decode(), re.M)]
+        wanted = ["cgroup2 cgroup2", "mine tmpfs", "cgroup2 cgroup2", "again tmpfs"]
+        same("%s: mounts over the hierarchy" % what, (ran.returncode, found), (0, wanted))
 
 
 def other():
@@ -515,7 +551,7 @@ if sys.argv[1:] == ["kernel"]:
         if group:
             as_in_a_kernel("the kernel", group)
     finish()
-for test in (every_file, control, names, most, of_system, made, under_run, tables, other):
+for test in (every_file, control, names, most, of_system, made, under_run, tables, over, other):
     test()
 ran = subprocess.run([PROGRAM, "run", "--root", sys.executable, ME, "longest"], timeout=2 * PATIENCE)
 same("the longest path: its status", ran.returncode, 0)
