@@ -11,7 +11,6 @@
 #include <signal.h>
 #include <stdlib.h>
 #include <string.h>
-#include <sys/prctl.h>
 #include <sys/syscall.h>
 #include <sys/wait.h>
 #include <time.h>
@@ -26,7 +25,6 @@ struct birth {
 	pid_t process, child;
 	bool is_thread, reads, reserved, told, runs; /* runs: the call is being made */
 	bool makes_space; /* a cgroup namespace that the server does not know yet */
-	bool filtered; /* its creator has a filter of the program's own */
 	int fault; /* if told: the errno that the call returns instead of a child */
 	unsigned reservation;
 	long long given_up_at;
@@ -64,7 +62,6 @@ static struct birth *begin(struct thread *t)
 	b->ticket = last_ticket;
 	b->creator = t;
 	b->process = t->process;
-	b->filtered = t->filtered;
 	births[b->ticket % PLACES] = b;
 	t->makes = b;
 	return b;
@@ -104,7 +101,6 @@ bool births_first(pid_t program)
 	if (!t || link_reserve(0, NULL, false, &reservation) || link_born(reservation, program, &t->frozen))
 		return false;
 	t->started = t->counted = true;
-	t->filtered = prctl(PR_GET_SECCOMP, 0, 0, 0, 0) > 0; /* by the caller of makhloeum: it has the same */
 	return true;
 }
 
@@ -253,7 +249,6 @@ static struct thread *settle(struct birth *b, pid_t child)
 	}
 	if (t) {
 		t->made_by = b;
-		t->filtered = b->filtered || (b->creator && b->creator->filtered);
 		t->frozen |= frozen;
 		t->counted |= !b->is_thread && fault == 0;
 		if (b->makes_space && fault == 0) {

@@ -54,12 +54,9 @@ enum { X32 = 0x40000000 };
 #define SEEN_WITH(number, argument, bits, how) \
 	UNLESS(number, 4), LOAD(args[argument]), IF_ANY(bits, 1), ANSWER(how), ANSWER(SECCOMP_RET_ALLOW)
 
-/* A call that is intercepted if this argument is this number; and one if it is at most this number. */
+/* A call that is intercepted if this argument is this number. */
 #define SEEN_IF(number, argument, value, how) \
 	UNLESS(number, 4), LOAD(args[argument]), UNLESS(value, 1), ANSWER(how), ANSWER(SECCOMP_RET_ALLOW)
-#define SEEN_UP_TO(number, argument, value, how)                                                            \
-	UNLESS(number, 4), LOAD(args[argument]), BPF_JUMP(BPF_JMP | BPF_JGT | BPF_K, value, 1, 0), ANSWER(how), \
-		ANSWER(SECCOMP_RET_ALLOW)
 
 #define STOPS (SECCOMP_RET_TRACE | FILTER_MARK)
 
@@ -108,7 +105,7 @@ int filter_install(void)
 		SEEN(__NR_ptrace, SECCOMP_RET_USER_NOTIF),
 		SEEN_WITH(__NR_prlimit64, 0, UINT_MAX, SECCOMP_RET_USER_NOTIF),
 		SEEN_IF(__NR_prctl, 0, PR_SET_SECCOMP, STOPS),
-		SEEN_UP_TO(__NR_seccomp, 0, SECCOMP_SET_MODE_FILTER, STOPS),
+		SEEN_IF(__NR_seccomp, 0, SECCOMP_SET_MODE_STRICT, STOPS),
 		SEEN_WITH(__NR_waitid, 3, WNOHANG, STOPS),
 		SEEN_WITH(__NR_wait4, 2, WNOHANG, STOPS),
 		SEEN(__NR_openat2, SECCOMP_RET_USER_NOTIF),
@@ -143,7 +140,7 @@ bool filter_stops(long call, const uint64_t args[6])
 	case __NR_prctl:
 		return (unsigned)args[0] == PR_SET_SECCOMP;
 	case __NR_seccomp:
-		return (unsigned)args[0] <= SECCOMP_SET_MODE_FILTER;
+		return (unsigned)args[0] == SECCOMP_SET_MODE_STRICT;
 	case __NR_waitid:
 		return args[3] & WNOHANG;
 	case __NR_wait4:

@@ -4,6 +4,7 @@
 #include "notified.h"
 #include "opening.h"
 #include "own.h"
+#include "status.h"
 #include "tables.h"
 #include <errno.h>
 #include <linux/seccomp.h>
@@ -18,7 +19,7 @@
 #include <sys/socket.h>
 #include <unistd.h>
 
-/* READERS: how many reads for clone3 the program may keep waiting before others fail. ANSWERERS: how many opens it may keep
+/* READERS: how many answers to the supervisor the program may keep waiting before others are not asked for. ANSWERERS: how many opens it may keep
    waiting before others pass unseen. */
 enum {
 	READERS = 512,
@@ -49,13 +50,24 @@ void helper_end(void)
 	close(to_helper);
 }
 
-bool helper_read(unsigned long ticket, pid_t thread, unsigned long at, size_t size)
+static bool request(const struct memory_question *q)
 {
-	struct memory_question q = { ticket, at, size, thread };
-	if (reading == READERS || send(to_helper, &q, sizeof q, MSG_NOSIGNAL | MSG_DONTWAIT) != sizeof q)
+	if (reading == READERS || send(to_helper, q, sizeof *q, MSG_NOSIGNAL | MSG_DONTWAIT) != sizeof *q)
 		return false;
 	reading++;
 	return true;
+}
+
+bool helper_read(unsigned long ticket, pid_t thread, unsigned long at, size_t size)
+{
+	struct memory_question q = { ticket, at, size, thread };
+	return request(&q);
+}
+
+bool helper_count_filters(pid_t thread)
+{
+	struct memory_question q = { .thread = thread };
+	return request(&q);
 }
 
 bool helper_take(struct memory_reply *reply)
@@ -93,6 +105,11 @@ static void answer_read(const struct memory_question *q, struct memory_reply *r)
 {
 	memset(r, 0, offsetof(struct memory_reply, group) + 1);
 	r->ticket = q->ticket;
+	r->thread = q->thread;
+	if (q->ticket == 0) {
+		r->filters = status_number(q->thread, "Seccomp_filters:");
+		return;
+	}
 	/* If nobody may read the program's file, its memory is not read: C libraries then use `clone`. */
 	if (q->size > sizeof r->args || !memory_read(q->thread, q->at, &r->args, q->size))
 		r->fault = errno == EPERM ? -ENOSYS : -EFAULT;

@@ -134,7 +134,10 @@ static void hear_helper(void)
 {
 	struct memory_reply reply;
 	while (helper_take(&reply))
-		births_arguments(&reply);
+		if (reply.ticket)
+			births_arguments(&reply);
+		else
+			tracer_filters(reply.thread, reply.filters);
 }
 
 /* Of two times to wait; -1: without an end. */

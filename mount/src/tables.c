@@ -224,20 +224,30 @@ static bool is_hierarchy(const struct line *l)
 	return strcmp(l->type, "fuse.cgroup2") == 0 && strcmp(l->source, cgroup_source) == 0;
 }
 
+static bool is_machines(const struct line *l)
+{
+	return strcmp(l->type, "cgroup") == 0 || strcmp(l->type, "cgroup2") == 0;
+}
+
 static bool is_usual(const struct line *l)
 {
 	return strcmp(l->place, cgroup_mount) == 0;
 }
 
-/* Ends each line by a zero byte. Returns the first that is the hierarchy at its usual place, or NULL. */
+/* Ends each line by a zero byte. Returns the first that is the hierarchy at its usual place, if some of the machine's own are listed
+   too; else NULL, as in a container that has changed its root. */
 static const char *split(char *kernels, const struct form *f)
 {
 	const char *found = NULL;
+	bool machines = false;
 	struct line l;
-	for (char *rest = kernels, *line; (line = strsep(&rest, "\n"));)
-		if (!found && read_line(line, f, &l) && is_hierarchy(&l) && is_usual(&l))
+	for (char *rest = kernels, *line; (line = strsep(&rest, "\n"));) {
+		bool known = read_line(line, f, &l);
+		machines |= known && is_machines(&l);
+		if (!found && known && is_hierarchy(&l) && is_usual(&l))
 			found = line;
-	return found;
+	}
+	return machines ? found : NULL;
 }
 
 /* One line: the mount as the kernel would show a cgroup2 mount. The machine's own are left out, and so is the tmpfs in which it has
@@ -250,7 +260,7 @@ static void put_mount(FILE *out, char *line, const struct form *f, const char *r
 		fprintf(out, "%s\n", line);
 		return;
 	}
-	if (strcmp(l.type, "cgroup") == 0 || strcmp(l.type, "cgroup2") == 0)
+	if (is_machines(&l))
 		return;
 	if (strcmp(l.type, "tmpfs") == 0 && is_usual(&l) && first && line < first)
 		return;

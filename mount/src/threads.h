@@ -12,9 +12,6 @@ struct birth;
    child that it made by vfork. */
 enum rest { RUNS, PARKED, BEFORE_CALL, LISTENS, VFORKS };
 
-/* For whom a call installs a filter of seccomp: the thread alone, or all threads of its process. */
-enum installs { NO_FILTER, FOR_ITSELF, FOR_ALL };
-
 struct thread {
 	struct thread *next, *before;
 	pid_t id, process;
@@ -24,9 +21,8 @@ struct thread {
 	struct birth *made_by; /* until it has left its first stop */
 	bool frozen; /* it stays at its next stop */
 	bool unshares; /* it asks for a cgroup namespace */
-	bool strict; /* it has entered the strict mode of seccomp */
-	bool filtered; /* it has a filter of seccomp beside that of `run` */
-	enum installs installs; /* by the call that it is making */
+	bool asks_strict; /* for the strict mode of seccomp, and waits for the answer */
+	bool strict; /* it has entered that mode */
 	bool was_stopped; /* a signal has stopped it, and no SIGCONT was delivered since */
 	enum rest rest;
 	pid_t vforked_by;

@@ -12,6 +12,7 @@
 #include "births.h"
 #include "filter.h"
 #include "halts.h"
+#include "helper.h"
 #include "link.h"
 #include "own.h"
 #include "registers.h"
@@ -78,16 +79,34 @@ static void on_unshare(struct thread *t)
 	stops_run_call(t->id);
 }
 
-static void on_seccomp(struct thread *t, long number, const uint64_t args[6])
+static void return_from_strict(struct thread *t, int result)
 {
 	struct registers before;
-	int result = strict_begin(t, number, args);
-	if (t->installs != NO_FILTER)
-		stops_run_call(t->id);
-	else if (result > 0)
-		stops_run(t->id, 0);
-	else if (registers_read(t->id, &before)) /* else it was killed */
+	t->asks_strict = false;
+	t->strict = result == 0;
+	if (registers_read(t->id, &before)) /* else it was killed */
 		stops_return(t->id, &before, result);
+}
+
+/* How many filters the thread has is said by a file of /proc, which the helper reads. */
+static void on_seccomp(struct thread *t, long number, const uint64_t args[6])
+{
+	int fault = strict_wanted(number, args);
+	if (fault > 0)
+		stops_run(t->id, 0);
+	else if (fault < 0)
+		refuse(t, -fault);
+	else if (helper_count_filters(t->id))
+		t->asks_strict = true;
+	else
+		return_from_strict(t, strict_result(-1));
+}
+
+void tracer_filters(pid_t thread, long filters)
+{
+	struct thread *t = threads_find(thread);
+	if (t && t->asks_strict) /* else it was killed meanwhile */
+		return_from_strict(t, strict_result(filters));
 }
 
 /* The stop was taken a while ago. Meanwhile the thread may have been killed, and another that called execve may have its
@@ -138,12 +157,12 @@ static void leaves(const struct thread *t)
 static void on_exec(struct thread *t)
 {
 	pid_t former = stops_message(t->id);
+	t->asks_strict = false;
 	births_abandon(t);
 	halts_vfork_over(t);
 	struct thread *other = former == t->id ? NULL : threads_find(former);
 	if (other) {
 		t->strict = other->strict;
-		t->filtered = other->filtered;
 		births_abandon(other);
 		halts_forget(other);
 		leaves(other);
@@ -181,9 +200,6 @@ static void at_call(struct thread *t)
 	if (t->unshares)
 		link_space(call.op == PTRACE_SYSCALL_INFO_EXIT && !call.exit.is_error ? spaces_of(t->id) : 0, unshare_of(t));
 	t->unshares = false;
-	if (t->installs != NO_FILTER && call.op == PTRACE_SYSCALL_INFO_EXIT && call.exit.rval == 0)
-		strict_filtered(t);
-	t->installs = NO_FILTER;
 	stops_run(t->id, 0);
 }
 

@@ -13,6 +13,8 @@ bool tracer_hold(pid_t program);
 bool tracer_look(void);
 /* Stops and continues what the freezer says; true if it says more than was done. */
 bool tracer_obey(void);
+/* The answer of helper_count_filters. */
+void tracer_filters(pid_t thread, long filters);
 /* True once the program has ended, with its wait status. */
 bool tracer_has_ended(int *status);
 /* Kills everything that the program left behind. */

@@ -6,7 +6,7 @@ import signal
 import subprocess
 import sys
 
-from support import PATIENCE, Mount, error_of, finish, is_alive, libc, parent_of, read, same, step, until, write
+from support import PATIENCE, Mount, error_of, finish, is_alive, libc, parent_of, read, same, spared, step, until, write
 
 
 def state_of(pid):
@@ -90,11 +90,6 @@ step("and their children", until(lambda: not any(os.path.exists("/proc/%d" % p) 
 m.end()
 
 
-def alive(*pids):
-    """Which of them live, once whom a kill has reached is gone."""
-    return [is_alive(p) for p in pids]
-
-
 def family():
     """A process with a child, and a grandchild; each waits, and a line ends the first. Their numbers."""
     script = "sh -c 'sleep 600 & echo $! $$; wait' & echo $$; read x"
@@ -122,10 +117,10 @@ same("a child moves alone", [read(m.path(g, "pids.current")) for g in "abc"], [b
 write(m.path("b", "cgroup.procs"), b"%d\n" % second)
 same("to where it is", [read(m.path(g, "pids.current")) for g in "abc"], [b"2\n", b"1\n", b"0\n"])
 write(m.path("c", "cgroup.kill"), b"1\n")
-same("a kill of an empty group", alive(first, second, third, stranger.pid), [True] * 4)
+same("a kill of an empty group", spared(first, second, third, stranger.pid), [True] * 4)
 write(m.path("b", "cgroup.kill"), b"1\n")
 step("a kill of one", until(lambda: not is_alive(second)))
-same("reaches no other", alive(first, third, stranger.pid), [True] * 3)
+same("reaches no other", spared(first, third, stranger.pid), [True] * 3)
 same("who is left", [read(m.path(g, "pids.current")) for g in "abc"], [b"2\n", b"0\n", b"0\n"])
 same("whom a kill has reached does not exit once more", "exit %d\n" % second in open(m.trace).read(), False)
 top.stdin.write("x\n")
@@ -141,7 +136,7 @@ same(
     (b"0\n", True),
 )
 write(m.path("a", "cgroup.kill"), b"1\n")
-same("where no kill reaches it", alive(third), [True])
+same("where no kill reaches it", spared(third), [True])
 write(m.path("c", "cgroup.procs"), b"%d\n" % third)
 write(m.path("c", "cgroup.freeze"), b"1\n")
 same(
@@ -166,13 +161,13 @@ child = subprocess.Popen(["sleep", "600"])
 write(m.path("b", "cgroup.procs"), b"%d\n" % child.pid)
 for what, command in (("exit", b"%d\n" % child.pid), ("undo", b"1\n"), ("exit", b"%d\n" % child.pid)):
     write(m.control(what), command)
-    same("a real process that %s" % what, is_alive(child.pid), True)
+    same("a real process that %s" % what, spared(child.pid), [True])
     same("the count", read(m.path("b", "pids.current")), b"1\n" if what == "undo" else b"0\n")
 same("a number of nobody real", error_of(write, m.control("fork"), b"1 4194300\n"), "ok")
 write(m.path("b", "cgroup.procs"), b"4194300\n")
 same("it stays", read(m.path("b", "cgroup.procs")), b"4194300\n")
 write(m.path("b", "cgroup.kill"), b"1\n")
-same("a kill ends it, and nobody real", (read(m.path("b", "cgroup.procs")), is_alive(child.pid)), (b"", True))
+same("a kill ends it, and nobody real", (read(m.path("b", "cgroup.procs")), spared(child.pid)), (b"", [True]))
 child.kill()
 child.wait()
 same("who has left does not exit once more", read(m.path("b", "pids.current")), b"0\n")
@@ -199,7 +194,7 @@ write(m.path("last", "cgroup.procs"), b"%d\n" % last.pid)
 last.kill()
 last.wait()
 same("rmdir just after the last has died", error_of(os.rmdir, m.path("last")), "ok")
-same("who was never there lives", alive(stranger.pid), [True])
+same("who was never there lives", spared(stranger.pid), [True])
 stranger.kill()
 stranger.wait()
 m.end()
@@ -231,7 +226,7 @@ second = forked()
 os.write(kill_b, b"1")
 same("a kill reaches the parent", parent.wait(PATIENCE), -signal.SIGKILL)
 step("and whom it has just made", until(lambda: not is_alive(second)))
-same("but no other", (is_alive(first), read(m.path("a", "cgroup.procs"))), (True, b"%d\n" % first))
+same("but no other", (spared(first), read(m.path("a", "cgroup.procs"))), ([True], b"%d\n" % first))
 for fd in (kill_b, to_b):
     os.close(fd)
 parent.stdin.close()

@@ -1,6 +1,7 @@
 """Zombies under `makhloeum run`: what counts them, what lists them, and when they are gone, by each way in which a process ends. This
 file is also the program (dead.py inside NAME)."""
 import ctypes
+import mmap
 import os
 import select
 import signal
@@ -9,6 +10,8 @@ import time
 
 from support import AT, PATIENCE, clone_into, error_of, finish, inside, into, libc, own_of, read, run_each, same
 from support import step, until, write
+
+MADV_POPULATE_READ = 22  # Linux 5.14
 
 
 def count(group):
@@ -261,12 +264,17 @@ def unheard():
 
 
 def born():
-    """A kill of a group reaches a child that is just being made there, by a parent elsewhere: the supervisor is stopped while it
-    makes one, at a time at which the child is there and is not listed yet."""
+    """A kill of a group reaches a child that is just being made there, by a parent elsewhere: the supervisor is stopped while the
+    parent makes one, so the child is there and is not listed yet. The parent has a table of many pages, which takes milliseconds to
+    copy."""
     os.mkdir(AT + "/p")
     group, supervisor, (r, w) = os.open(AT + "/p", os.O_RDONLY), os.getppid(), os.pipe()
     maker = os.fork()
     if maker == 0:
+        pages = mmap.mmap(-1, 1 << 30, mmap.MAP_PRIVATE | mmap.MAP_ANONYMOUS)
+        pages.madvise(mmap.MADV_NOHUGEPAGE)
+        pages[0] = 1  # the kernel copies no table of pages that were only read
+        pages.madvise(MADV_POPULATE_READ)
         args = (ctypes.c_uint64 * 11)(0x200000000, 0, 0, 0, signal.SIGCHLD, 0, 0, 0, 0, 0, group)  # CLONE_INTO_CGROUP
         while os.read(r, 1):
             pid = libc.syscall(435, args, 88)
@@ -278,10 +286,10 @@ def born():
     reached, lives = 0, False
     for turn in range(600):
         os.write(w, b"x")
-        time.sleep(turn % 60 * 0.00005)
+        time.sleep(turn % 60 * 0.0001)
         os.kill(supervisor, signal.SIGSTOP)
         until(lambda: b"T" in read("/proc/%d/stat" % supervisor).split()[:3])
-        is_between = children() != [] and listed() == []
+        is_between = until(lambda: children() != [], 0.1) and listed() == []
         if is_between:
             write(AT + "/p/cgroup.kill", b"1")
         os.kill(supervisor, signal.SIGCONT)
@@ -294,6 +302,7 @@ def born():
             break
     print("  %d kills reached a child that was being made, in %d turns" % (reached, turn + 1))
     same("such a child lives", lives, False)
+    step("there were such children", reached > 0)
     os.kill(maker, signal.SIGKILL)
     os.waitpid(maker, 0)
 

@@ -7,9 +7,10 @@ import subprocess
 import sys
 import tempfile
 import threading
+import time
 
 from support import AT, PATIENCE, PROGRAM, Beside, Mount
-from support import error_of, finish, inside, into, is_alive, own_of, read, same, status_within, step, tracer, until
+from support import error_of, finish, inside, into, own_of, read, same, spared, status_within, step, tracer, until
 from support import write
 
 ME = os.path.realpath(__file__)
@@ -194,14 +195,15 @@ def killing():
     waits_of = lambda: next(int(x.split()[1]) for x in open("/proc/%d/status" % tracer()) if x.startswith("voluntary"))
     before = waits_of()
     os.write(w, b"x")
-    # As long as the server kills, the supervisor waits for it, and asks again and again whether it runs. Until the file is gone
-    # this process makes no thread and no child: they would wait for the supervisor.
-    step("the second ends", until(lambda: follower.got or waits_of() > before + 20))
+    # As long as the server kills, the supervisor waits for it, and asks again and again whether it runs. If it didn't, the follower
+    # would come soon. Until the file is gone this process makes no thread and no child: they would wait for the supervisor.
+    soon = time.monotonic() + 1
+    step("the second ends", until(lambda: follower.got or (time.monotonic() > soon and waits_of() > before + 20)))
     os.unlink(held + ".hold")
     same("the kill ends", kill.result(), "done")
     same("and the first by it", os.waitpid(first, 0)[1], signal.SIGKILL)
     same("another has the number of the second", follower.result(), second)
-    same("and lives", (is_alive(second), numbers(""), count("/a")), (True, sorted((1, os.getpid())), 0))
+    same("and lives", (spared(second), numbers(""), count("/a")), ([True], sorted((1, os.getpid())), 0))
     os.kill(second, signal.SIGKILL)
 
 
@@ -253,7 +255,7 @@ def run(test):
         own.send(b"%d" % strangers[-1] if b"stranger" in word else b"x")
     same("%s: its status" % test.__name__, status_within(p, 6 * PATIENCE), 0)
     if test is companion:
-        same("who had a number of makhloeum lives", [is_alive(pid) for pid in strangers], [True])
+        same("who had a number of makhloeum lives", spared(*strangers), [True])
         end(strangers[0])
 
 
@@ -278,7 +280,7 @@ def adopted():
 
     pid = reused("a stranger", adopt_and_end, other, end)
     write(m.path("a", "cgroup.kill"), b"1")
-    same("a kill does not reach the stranger", (is_alive(pid), read(m.path("a", "pids.current"))), (True, b"0\n"))
+    same("a kill does not reach the stranger", (spared(pid), read(m.path("a", "pids.current"))), ([True], b"0\n"))
     write(m.path("a", "cgroup.procs"), b"%d" % pid)
     same("until it is adopted", read(m.path("a", "cgroup.procs")), b"%d\n" % pid)
     write(m.path("a", "cgroup.kill"), b"1")

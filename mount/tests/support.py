@@ -265,6 +265,12 @@ def is_alive(pid):
         return False
 
 
+def spared(*pids):
+    """Which of these processes still live, once a signal would have ended them."""
+    until(lambda: not all(map(is_alive, pids)), 0.5)
+    return [is_alive(pid) for pid in pids]
+
+
 def line_of(pid):
     """The command line of a process; empty if it has ended."""
     try:

@@ -498,21 +498,41 @@ def longest():
     same("the root of a cgroup namespace", (ran.returncode, ran.stdout), (0, b"0::/\n"))
 
 
+ROOT_OF_ITS_OWN = """n=$(mktemp -d)
+mount -t tmpfs root $n
+for d in bin lib lib64 usr; do [ ! -d /$d ] || { mkdir $n/$d; mount --bind /$d $n/$d; }; done
+mkdir -p $n/proc $n/old $n%(at)s
+mount --rbind /proc $n/proc
+mount -t tmpfs mine $n%(at)s
+mount -t cgroup2 x $n%(at)s
+cd $n
+pivot_root . old
+umount -l /old
+""" % {"at": AT}
+
+
 def over():
-    """The tables list what the program mounts over the hierarchy, and no tmpfs of the machine below it."""
+    """The tables list what the program mounts over the hierarchy, and the tmpfs below it only if that is a container's own."""
     mounts = ("tmpfs mine", "cgroup2 x", "tmpfs again")
-    script = "".join("mount -t %s %s && " % (each, AT) for each in mounts) + "cat /proc/self/$1"
+    script = "".join("mount -t %s %s\n" % (each, AT) for each in mounts)
+    wanted = ["cgroup2 cgroup2", "mine tmpfs", "cgroup2 cgroup2", "again tmpfs"]
     below = ["unshare", "-Urm", "sh", "-c", 'mount -t tmpfs below %s && exec "$@"' % AT, "sh"]
+    if not re.search("^[^ ]+ [^ ]+ cgroup2? ", open("/proc/mounts").read(), re.M):
+        wanted.insert(0, "below tmpfs")  # a machine without a hierarchy of its own
     for what, form in (
         ("mounts", r"(\S+) %s (\S+) .*"),
         ("mountinfo", r".* %s \S+ - (\S+) (\S+) .*"),
         ("mountstats", r"device (\S+) mounted on %s with fstype (\S+)"),
     ):
-        words = [*below, PROGRAM, "run", "--root", "--", "sh", "-c", script, "sh", what]
-        ran = subprocess.run(words, stdout=subprocess.PIPE, timeout=4 * PATIENCE)
-        found = [" ".join(sorted(each)) for each in re.findall("^" + form % AT + "$", ran.stdout.decode(), re.M)]
-        wanted = ["cgroup2 cgroup2", "mine tmpfs", "cgroup2 cgroup2", "again tmpfs"]
-        same("%s: mounts over the hierarchy" % what, (ran.returncode, found), (0, wanted))
+        for how, makes, listed in (
+            ("mounts over the hierarchy", script, wanted),
+            ("a container's", ROOT_OF_ITS_OWN, ["mine tmpfs", "cgroup2 cgroup2"]),
+        ):
+            whole = ["sh", "-ec", makes + "cat /proc/self/$1", "sh", what]
+            words = [*below, PROGRAM, "run", "--root", "--", "unshare", "-m", *whole]
+            ran = subprocess.run(words, stdout=subprocess.PIPE, timeout=4 * PATIENCE)
+            found = [" ".join(sorted(each)) for each in re.findall("^" + form % AT + "$", ran.stdout.decode(), re.M)]
+            same("%s: %s" % (what, how), (ran.returncode, found), (0, listed))
 
 
 def other():
