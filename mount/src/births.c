@@ -4,6 +4,7 @@
 #include "link.h"
 #include "place.h"
 #include "registers.h"
+#include "roots.h"
 #include "spaces.h"
 #include "stops.h"
 #include <errno.h>
@@ -24,6 +25,7 @@ struct birth {
 	struct thread *creator; /* NULL: gone */
 	pid_t process, child;
 	bool is_thread, reads, reserved, told, runs; /* runs: the call is being made */
+	bool stops_at_exec; /* its creator does */
 	bool makes_space; /* a cgroup namespace that the server does not know yet */
 	int fault; /* if told: the errno that the call returns instead of a child */
 	unsigned reservation;
@@ -62,6 +64,7 @@ static struct birth *begin(struct thread *t)
 	b->ticket = last_ticket;
 	b->creator = t;
 	b->process = t->process;
+	b->stops_at_exec = t->stops_at_exec;
 	births[b->ticket % PLACES] = b;
 	t->makes = b;
 	return b;
@@ -148,6 +151,8 @@ static void make(struct thread *t, struct birth *b, long number, struct clone_re
 		refuse(t, -fault);
 		return;
 	}
+	if (args->flags & CLONE_NEWNS)
+		roots_change();
 	args->flags &= ~(unsigned long)CLONE_UNTRACED;
 	args->ticket = b->ticket;
 	if (number == SYS_clone)
@@ -249,6 +254,7 @@ static struct thread *settle(struct birth *b, pid_t child)
 	}
 	if (t) {
 		t->made_by = b;
+		t->stops_at_exec = b->stops_at_exec;
 		t->frozen |= frozen;
 		t->counted |= !b->is_thread && fault == 0;
 		if (b->makes_space && fault == 0) {
@@ -277,7 +283,7 @@ void births_told(struct thread *creator, pid_t child)
 		stops_run_call(creator->id);
 		return;
 	}
-	stops_restore(creator->id, &b->before);
+	stops_restore_in(creator->id, &b->before);
 	creator->makes = NULL;
 	b->creator = NULL;
 	end_if_over(b);
@@ -288,9 +294,11 @@ void births_told(struct thread *creator, pid_t child)
 void births_returned(struct thread *t)
 {
 	struct birth *b = t->makes;
+	struct registers now;
 	if (!b)
 		return;
-	stops_restore(t->id, &b->before);
+	if (registers_read(t->id, &now)) /* else it was killed */
+		stops_restore(t->id, &now, &b->before);
 	if (b->fault)
 		(void)registers_set_result(t->id, b->fault); /* it fails only if the thread was killed */
 	if (b->told)
@@ -314,7 +322,9 @@ struct thread *births_appeared(pid_t child)
 		kill(child, SIGKILL); /* it cannot fail: it was not waited for */
 		return NULL;
 	}
-	stops_restore(child, &b->before);
+	stops_restore(child, &here, &b->before);
+	if (b->is_thread)
+		stops_at_exec(t);
 	t->started = true;
 	t->made_by = NULL;
 	end_if_over(b);

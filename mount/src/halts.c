@@ -118,22 +118,9 @@ void halts_listens(struct thread *t)
 	set(t, LISTENS);
 }
 
-void halts_vforks(struct thread *t, pid_t child)
+void halts_vforks(struct thread *t)
 {
-	struct thread *c = threads_find(child);
-	if (!c)
-		return;
-	c->vforked_by = t->id;
 	set(t, VFORKS);
-}
-
-/* A frozen one first has a stop before it runs again: so it still rests. */
-void halts_vfork_over(struct thread *t)
-{
-	struct thread *by = threads_find(t->vforked_by);
-	t->vforked_by = 0;
-	if (by && by->rest == VFORKS && !by->frozen)
-		set(by, RUNS);
 }
 
 /* ---------------------------------------------------------------- orders */
@@ -154,7 +141,10 @@ static void freeze(struct thread *t)
 static bool stands_parked(pid_t id)
 {
 	siginfo_t now;
-	return ptrace(PTRACE_GETSIGINFO, id, 0, &now) == 0 && now.si_code >> 8 == PTRACE_EVENT_STOP;
+	if (ptrace(PTRACE_GETSIGINFO, id, 0, &now))
+		return false;
+	int event = now.si_code >> 8;
+	return event == PTRACE_EVENT_STOP || event == PTRACE_EVENT_VFORK_DONE;
 }
 
 static void go_on(struct thread *t, void (*call)(struct thread *t))

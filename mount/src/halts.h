@@ -18,9 +18,8 @@ void halts_moves(struct thread *t);
 void halts_insists(struct thread *t);
 /* It rests although nobody asked: a signal stopped it. */
 void halts_listens(struct thread *t);
-/* It waits for the child that it made by vfork; the wait of the thread that made this one by vfork has ended. */
-void halts_vforks(struct thread *t, pid_t child);
-void halts_vfork_over(struct thread *t);
+/* It waits for the child that it has made by vfork, until its next stop. */
+void halts_vforks(struct thread *t);
 /* A frozen process whose first thread may be ending is looked at again. Returns how long until the next look is needed: in
    milliseconds, -1 for never. */
 int halts_look_again(void);

@@ -28,6 +28,7 @@ enum {
 	ANSWERERS = 512,
 	PATIENCE = 100, /* looks */
 	LOOK = 1000, /* microseconds */
+	QUIET = 20, /* looks */
 	STACK = 256 * 1024,
 	OPEN_AT_FIRST = 64
 };
@@ -183,18 +184,21 @@ static bool is_watched(int listener)
 	return true;
 }
 
-/* Returns once this thread has to listen. It rests while no calls come. */
+/* Returns once this thread has to listen. It rests after a while without calls: to wake it costs the next caller time. */
 static void watch(void)
 {
 	unsigned seen = atomic_load(&turn) - 1;
+	int quiet = 0;
 	for (;; usleep(LOOK)) {
 		unsigned now = atomic_load(&turn);
 		bool same = now == seen, busy = now % 2;
 		seen = now;
 		if (same && busy && atomic_compare_exchange_strong(&turn, &now, now + 1))
 			return;
-		if (!same || busy)
+		quiet = same && !busy ? quiet + 1 : 0;
+		if (quiet < QUIET)
 			continue;
+		quiet = 0;
 		atomic_store(&rests, true);
 		if (atomic_load(&turn) != now && atomic_exchange(&rests, false))
 			continue;
@@ -250,14 +254,14 @@ static bool share_root(pid_t program)
 	return chroot(path) == 0 || errno == ENOENT || errno == ESRCH; /* it has ended already, and makes no call */
 }
 
-static void serve(int listener, int end)
+static void serve(int listener, int end, pid_t program)
 {
 	own_raise_files(); /* each call that waits has a few */
 	/* other descriptors of the supervisor would keep the mount and the other ends of its pipes open */
 	for (int fd = STDERR_FILENO + 1; fd < OPEN_AT_FIRST; fd++)
 		if (fd != listener && fd != end && fd != groups_root() && fd != tables_socket())
 			close(fd); /* it fails where there is none */
-	opening_begin();
+	opening_begin(program);
 	if (pthread_attr_init(&small) || pthread_attr_setstacksize(&small, STACK) || sem_init(&needed, 0, 0) ||
 		sem_init(&heard, 0, 0) || !add_answerer(listener, answer_first))
 		_exit(1);
@@ -284,7 +288,7 @@ int helper_start(int listener, pid_t program)
 	process = fork();
 	if (process == 0) {
 		if (own_dies_with(self) && share_root(program))
-			serve(listener, ends[1]);
+			serve(listener, ends[1], program);
 		_exit(1);
 	}
 	int fault = errno;

@@ -1,5 +1,6 @@
 #include "opening.h"
 #include "cleanup.h"
+#include "roots.h"
 #include "status.h"
 #include <fcntl.h>
 #include <limits.h>
@@ -310,34 +311,38 @@ static int open_start(pid_t thread, int root, int directory, const char *path, u
 static struct {
 	int fd; /* -1: it is of /proc, or not known */
 	struct statx is;
+	bool is_programs; /* the program began with it */
 } own_root = { .fd = -1 };
 
-static bool is_own_root(const char *path)
+static bool has_own_root(pid_t thread)
 {
+	char path[40];
 	struct statx is;
+	snprintf(path, sizeof path, "%d/root", thread);
 	return statx(AT_FDCWD, path, AT_STATX_DONT_SYNC | AT_NO_AUTOMOUNT, STATX_INO | STATX_MNT_ID, &is) == 0 &&
 		are_same(&is, &own_root.is);
 }
 
-void opening_begin(void)
+void opening_begin(pid_t program)
 {
 	int how = AT_EMPTY_PATH | AT_STATX_DONT_SYNC | AT_NO_AUTOMOUNT;
 	own_root.fd = open("/", O_PATH | O_CLOEXEC);
 	if (own_root.fd >= 0 &&
 		(is_proc(own_root.fd) || statx(own_root.fd, "", how, STATX_INO | STATX_MNT_ID, &own_root.is)))
 		close_at(&own_root.fd);
+	own_root.is_programs = has_own_root(program);
 }
 
 /* The number of the root's mount is that of no other, since the mount stays open. A relative path follows no links, since their
    root is not known. */
 bool opening_stays_outside_proc(pid_t thread, int directory, const char *path, bool follows)
 {
-	char root[40];
 	bool is_absolute = path[0] == '/';
 	struct open_how how = { .flags = (uint64_t)(O_PATH | O_CLOEXEC | (follows ? 0 : O_NOFOLLOW)),
 		.resolve = RESOLVE_NO_XDEV | (is_absolute ? RESOLVE_IN_ROOT | RESOLVE_NO_MAGICLINKS : RESOLVE_NO_SYMLINKS) };
-	snprintf(root, sizeof root, "%d/root", thread);
-	if (own_root.fd < 0 || path[0] == 0 || !is_own_root(root))
+	if (own_root.fd < 0 || path[0] == 0)
+		return false;
+	if (!(own_root.is_programs && !roots_have_changed()) && !has_own_root(thread))
 		return false;
 	cleanup_fd int from = is_absolute ? -1 : open_start(thread, -1, directory, path, 0);
 	if (!is_absolute && (from < 0 || is_proc(from)))

@@ -9,7 +9,7 @@
 #include <sys/types.h>
 
 /* Before the first look. */
-void opening_begin(void);
+void opening_begin(pid_t program);
 /* Whether the file is certainly not of /proc, or is not there, by the usual rules: most are known at little cost. */
 bool opening_stays_outside_proc(pid_t thread, int directory, const char *path, bool follows);
 /* A descriptor (O_PATH) of the file, or -1 and errno: ENOMEM only if memory did not suffice to find it. `resolve`: rules of

@@ -18,6 +18,11 @@ bool registers_read(pid_t thread, struct registers *out)
 	return ptrace(PTRACE_GETREGSET, thread, NT_PRSTATUS, &all) == 0;
 }
 
+bool registers_restore_in(pid_t thread, const struct registers *before)
+{
+	return write_all(thread, &before->kernel);
+}
+
 #if defined(__x86_64__)
 
 unsigned long registers_ticket(const struct registers *r)
@@ -50,24 +55,18 @@ bool registers_set_ticket(pid_t thread, const struct registers *before, unsigned
 	return ptrace(PTRACE_POKEUSER, thread, offsetof(struct user_regs_struct, r9), ticket) == 0;
 }
 
-bool registers_restore(pid_t thread, const struct registers *before)
+bool registers_restore(pid_t thread, const struct registers *now, const struct registers *before)
 {
-	struct registers now;
 	const struct user_regs_struct *b = &before->kernel;
-	if (!registers_read(thread, &now))
-		return false;
-	struct user_regs_struct *k = &now.kernel;
-	if (k->rdi == b->rdi && k->rsi == b->rsi && k->rdx == b->rdx && k->r10 == b->r10 && k->r8 == b->r8 &&
-		k->orig_rax == b->orig_rax)
-		return registers_set_ticket(thread, before, b->r9);
-	k->orig_rax = b->orig_rax;
-	k->rdi = b->rdi;
-	k->rsi = b->rsi;
-	k->rdx = b->rdx;
-	k->r10 = b->r10;
-	k->r8 = b->r8;
-	k->r9 = b->r9;
-	return write_all(thread, k);
+	struct user_regs_struct k = now->kernel;
+	k.orig_rax = b->orig_rax;
+	k.rdi = b->rdi;
+	k.rsi = b->rsi;
+	k.rdx = b->rdx;
+	k.r10 = b->r10;
+	k.r8 = b->r8;
+	k.r9 = b->r9;
+	return write_all(thread, &k);
 }
 
 bool registers_return(pid_t thread, const struct registers *before, int result)
@@ -128,14 +127,12 @@ bool registers_set_ticket(pid_t thread, const struct registers *before, unsigned
 }
 
 /* The first register has the result; if a call is restarted, the kernel has kept the first argument. */
-bool registers_restore(pid_t thread, const struct registers *before)
+bool registers_restore(pid_t thread, const struct registers *now, const struct registers *before)
 {
-	struct registers now;
-	if (!registers_read(thread, &now))
-		return false;
+	struct user_regs_struct k = now->kernel;
 	for (int i = 1; i <= 5; i++)
-		now.kernel.regs[i] = before->kernel.regs[i];
-	return write_all(thread, &now.kernel);
+		k.regs[i] = before->kernel.regs[i];
+	return write_all(thread, &k);
 }
 
 bool registers_return(pid_t thread, const struct registers *before, int result)

@@ -25,8 +25,10 @@ void registers_of_clone(const struct registers *r, struct clone_registers *out);
 bool registers_set_call(pid_t thread, const struct registers *before, long number, const struct clone_registers *args);
 /* Before a call: sets only the ticket. */
 bool registers_set_ticket(pid_t thread, const struct registers *before, unsigned long ticket);
-/* In or after a call: restores the arguments that the program had there. */
-bool registers_restore(pid_t thread, const struct registers *before);
+/* In a call: restores what the program had there before it. */
+bool registers_restore_in(pid_t thread, const struct registers *before);
+/* After a call: restores the arguments. `now`: what is there. */
+bool registers_restore(pid_t thread, const struct registers *now, const struct registers *before);
 /* Before a call: skips it; it returns this result. */
 bool registers_return(pid_t thread, const struct registers *before, int result);
 /* At the stop before a signal is delivered: whether a call has ended with EINTR, and which. */

@@ -15,6 +15,7 @@
 #include "own.h"
 #include "passing.h"
 #include "real.h"
+#include "roots.h"
 #include "signals.h"
 #include "space.h"
 #include "tables.h"
@@ -268,7 +269,7 @@ static pid_t start_mount(int ends[2], int *freezer, pid_t *companion)
 		say("this machine does not allow another descriptor: %s", strerror(errno));
 		return -1;
 	}
-	if (!advance_begin() || !news_begin()) {
+	if (!advance_begin() || !news_begin() || !roots_begin()) {
 		say("out of memory");
 		return -1;
 	}

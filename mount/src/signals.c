@@ -42,10 +42,11 @@ int signals_pass_on(int from, pid_t program)
 {
 	static unsigned waiting; /* a bit for each signal */
 	static long long next;
-	struct signalfd_siginfo one;
-	for (int i = 0; from >= 0 && i < AT_ONCE && read(from, &one, sizeof one) == sizeof one; i++)
-		if (is_passed_on(&one))
-			waiting |= 1U << one.ssi_signo;
+	struct signalfd_siginfo some[AT_ONCE];
+	ssize_t size = from < 0 ? 0 : read(from, some, sizeof some);
+	for (int i = 0; size > 0 && i < (int)((size_t)size / sizeof *some); i++)
+		if (is_passed_on(&some[i]))
+			waiting |= 1U << some[i].ssi_signo;
 	if (!waiting)
 		return -1;
 	long long left = next - now();

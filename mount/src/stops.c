@@ -1,11 +1,19 @@
 #include "stops.h"
 #include "serve.h"
-#include "threads.h"
 #include <errno.h>
 #include <string.h>
 #include <sys/ptrace.h>
 
-/* All calls here fail if the thread does not stand at the stop, since it was killed. Its end is reported, or another thread of
+/* Which stops there are. An execve changes something here only if the first thread of a process does not call it. */
+static const long always = PTRACE_O_TRACEFORK | PTRACE_O_TRACEVFORK | PTRACE_O_TRACECLONE | PTRACE_O_TRACEVFORKDONE |
+	PTRACE_O_TRACESECCOMP | PTRACE_O_TRACESYSGOOD | PTRACE_O_EXITKILL;
+
+bool stops_begin(pid_t process)
+{
+	return ptrace(PTRACE_SEIZE, process, 0, always) == 0;
+}
+
+/* All other calls here fail if the thread does not stand at the stop, since it was killed. Its end is reported, or another thread of
    its process that called execve has its number by now; that one has its own stops. So there is nothing to do. A right call
    has no other fault. */
 static void resume(enum __ptrace_request how, pid_t thread, int signal)
@@ -32,9 +40,20 @@ void stops_return(pid_t thread, const struct registers *before, int result)
 		stops_run(thread, 0);
 }
 
-void stops_restore(pid_t thread, const struct registers *before)
+void stops_restore_in(pid_t thread, const struct registers *before)
 {
-	(void)registers_restore(thread, before); /* it fails as all calls here do */
+	(void)registers_restore_in(thread, before); /* it fails as all calls here do */
+}
+
+void stops_restore(pid_t thread, const struct registers *now, const struct registers *before)
+{
+	(void)registers_restore(thread, now, before); /* as above */
+}
+
+void stops_at_exec(struct thread *t)
+{
+	if (!t->stops_at_exec && ptrace(PTRACE_SETOPTIONS, t->id, 0, always | PTRACE_O_TRACEEXEC) == 0)
+		t->stops_at_exec = true;
 }
 
 void stops_listen(pid_t thread)

@@ -3,17 +3,23 @@
 #define STOPS_H
 
 #include "registers.h"
+#include "threads.h"
 #include <stdbool.h>
 #include <sys/types.h>
 
+/* A process is traced from now on, with all that it makes. False with errno. */
+bool stops_begin(pid_t process);
+/* A thread, at a stop, also stops after an execve, and so does all that it makes. */
+void stops_at_exec(struct thread *t);
 /* It runs until its next stop. `signal` is delivered to it; 0 is none. A thread in strict mode also stops at each call. */
 void stops_run(pid_t thread, int signal);
 /* It runs until the end of the call that it is about to make, or is in. */
 void stops_run_call(pid_t thread);
 /* The call that it is about to make is not made, and returns this: 0 or -errno. */
 void stops_return(pid_t thread, const struct registers *before, int result);
-/* Its registers are as before the call; the result stays. */
-void stops_restore(pid_t thread, const struct registers *before);
+/* In a call, which has no result yet, or after it: its registers are as before it, but for the result. `now`: what they are. */
+void stops_restore_in(pid_t thread, const struct registers *before);
+void stops_restore(pid_t thread, const struct registers *now, const struct registers *before);
 /* It stays stopped as a signal has stopped it, until it is continued. */
 void stops_listen(pid_t thread);
 /* A running thread stops as soon as it can. */

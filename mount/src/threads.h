@@ -8,8 +8,8 @@
 
 struct birth;
 
-/* Why a thread does not run: kept at a stop of its whole process, or before a call; stopped by a signal; waiting for the
-   child that it made by vfork. */
+/* Why a thread does not run: kept at a stop of its whole process or after a vfork, or before a call; stopped by a signal; waiting
+   for the child that it made by vfork. */
 enum rest { RUNS, PARKED, BEFORE_CALL, LISTENS, VFORKS };
 
 struct thread {
@@ -20,12 +20,12 @@ struct thread {
 	struct birth *makes; /* the call by which it is making a child */
 	struct birth *made_by; /* until it has left its first stop */
 	bool frozen; /* it stays at its next stop */
+	bool stops_at_exec;
 	bool unshares; /* it asks for a cgroup namespace */
 	bool asks_strict; /* for the strict mode of seccomp, and waits for the answer */
 	bool strict; /* it has entered that mode */
 	bool was_stopped; /* a signal has stopped it, and no SIGCONT was delivered since */
 	enum rest rest;
-	pid_t vforked_by;
 	/* of the first thread of a process: how many threads there are, how many of them rest, and whether the server knows
 	   that all do */
 	unsigned members, resting;

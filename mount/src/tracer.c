@@ -17,6 +17,7 @@
 #include "own.h"
 #include "registers.h"
 #include "restarts.h"
+#include "roots.h"
 #include "spaces.h"
 #include "stops.h"
 #include "strict.h"
@@ -39,13 +40,10 @@ static pid_t program;
 static int program_status;
 static bool program_ended;
 
-static const long wanted = PTRACE_O_TRACEFORK | PTRACE_O_TRACEVFORK | PTRACE_O_TRACECLONE | PTRACE_O_TRACEEXEC |
-	PTRACE_O_TRACESECCOMP | PTRACE_O_TRACESYSGOOD | PTRACE_O_EXITKILL;
-
 bool tracer_hold(pid_t pid)
 {
 	program = pid;
-	if (ptrace(PTRACE_SEIZE, pid, 0, wanted))
+	if (!stops_begin(pid))
 		return false;
 	errno = EAGAIN;
 	return births_first(pid);
@@ -67,9 +65,15 @@ static void refuse(struct thread *t, int error)
 		stops_return(t->id, &before, -error);
 }
 
-/* The namespace is handled after the call. */
-static void on_unshare(struct thread *t)
+/* The cgroup namespace is handled after the call. */
+static void on_unshare(struct thread *t, unsigned long flags)
 {
+	if (flags & CLONE_NEWNS)
+		roots_change();
+	if (!(flags & CLONE_NEWCGROUP)) {
+		stops_run(t->id, 0);
+		return;
+	}
 	int fault = link_prepare(unshare_of(t), t->process);
 	if (fault) {
 		refuse(t, -fault);
@@ -77,6 +81,12 @@ static void on_unshare(struct thread *t)
 	}
 	t->unshares = true;
 	stops_run_call(t->id);
+}
+
+static void on_root(struct thread *t)
+{
+	roots_change();
+	stops_run(t->id, 0);
 }
 
 static void return_from_strict(struct thread *t, int result)
@@ -125,7 +135,9 @@ static void on_call(struct thread *t)
 	else if (births_is_fork(number))
 		births_ask(t, number);
 	else if (number == SYS_unshare)
-		on_unshare(t);
+		on_unshare(t, call.seccomp.args[0]);
+	else if (number == SYS_setns || number == SYS_chroot || number == SYS_pivot_root)
+		on_root(t);
 	else if (number == SYS_prctl || number == SYS_seccomp)
 		on_seccomp(t, number, call.seccomp.args);
 	else /* waitid or wait4: every death before this stop has been handled, so the caller sees it */
@@ -139,7 +151,7 @@ static void on_birth(struct thread *t, bool waits)
 		return; /* it was killed */
 	births_told(t, child);
 	if (waits)
-		halts_vforks(t, child);
+		halts_vforks(t);
 }
 
 /* Its number does. */
@@ -151,15 +163,23 @@ static void leaves(const struct thread *t)
 		link_thread_ended(t->id);
 }
 
-/* All other threads of the process have been killed. If the caller of execve was not the first thread, it has the first
-   one's number from now on, and keeps its filters. The first thread, whatever it was doing, no longer exists, and its death is not
-   reported. */
+/* The call may have a result that is not the kernel's, which is set after it. */
+static void on_vfork_done(struct thread *t)
+{
+	if (t->makes)
+		stops_run_call(t->id);
+	else if (!halts_keeps(t, PARKED))
+		stops_run(t->id, 0);
+}
+
+/* The caller was not the first thread, or a thread that was not the first has made it (stops_at_exec). All other threads of the
+   process have been killed. If it was not the first, it has the first one's number from now on. The first thread, whatever it was
+   doing, no longer exists, and its death is not reported. */
 static void on_exec(struct thread *t)
 {
 	pid_t former = stops_message(t->id);
 	t->asks_strict = false;
 	births_abandon(t);
-	halts_vfork_over(t);
 	struct thread *other = former == t->id ? NULL : threads_find(former);
 	if (other) {
 		t->strict = other->strict;
@@ -203,10 +223,15 @@ static void at_call(struct thread *t)
 	stops_run(t->id, 0);
 }
 
+static bool is_pause(int status)
+{
+	return status >> 8 == PTRACE_EVENT_STOP;
+}
+
 static void on_stop_of(pid_t id, struct thread *t, int status)
 {
 	int event = status >> 8, signal = status & 0x7f;
-	if (event == PTRACE_EVENT_STOP) {
+	if (is_pause(status)) {
 		on_pause(id, signal);
 		return;
 	}
@@ -223,6 +248,9 @@ static void on_stop_of(pid_t id, struct thread *t, int status)
 	case PTRACE_EVENT_CLONE:
 		on_birth(t, event == PTRACE_EVENT_VFORK);
 		return;
+	case PTRACE_EVENT_VFORK_DONE:
+		on_vfork_done(t);
+		return;
 	case PTRACE_EVENT_EXEC:
 		on_exec(t);
 		return;
@@ -235,11 +263,13 @@ static void on_stop_of(pid_t id, struct thread *t, int status)
 	}
 }
 
-/* Between the look and the answer another thread of the process may have called execve: then its stop now has this number,
-   and is handled at the next look. */
-static bool stands_there(pid_t id, int status)
+/* Between the look and the answer another thread of the process may have called execve: then its stop now has the number of the
+   first, and is handled at the next look. */
+static bool stands_there(const struct thread *t, pid_t id, int status)
 {
 	siginfo_t now;
+	if (!t || t->id != t->process || t->members == 1)
+		return true;
 	if (ptrace(PTRACE_GETSIGINFO, id, 0, &now))
 		return true; /* a stop of the whole process has no such record */
 	if (status >> 8 || status == (SIGTRAP | 0x80))
@@ -250,7 +280,7 @@ static bool stands_there(pid_t id, int status)
 static void on_stop(pid_t id, int status)
 {
 	struct thread *t = threads_find(id);
-	if (!stands_there(id, status))
+	if (!stands_there(t, id, status))
 		return;
 	if (t)
 		halts_moves(t);
@@ -272,7 +302,6 @@ static void on_end(pid_t id)
 	if (t->unshares)
 		link_space(0, unshare_of(t));
 	births_abandon(t);
-	halts_vfork_over(t);
 	halts_forget(t);
 	threads_drop(t);
 	halts_tell(process);
@@ -285,28 +314,35 @@ static struct {
 	int status;
 } stops[STOPS];
 
-/* Takes the next event. Returns 0 if there is none, 1 for a stop, and -1 for a death, which was reported already. */
+/* Takes a stop. Returns 0 if there is none, 1 for one of the program, and -1 for one of makhloeum itself. */
+static int take_stop(size_t at)
+{
+	siginfo_t next;
+	next.si_pid = 0;
+	if (waitid(P_ALL, 0, &next, WSTOPPED | WNOHANG | __WALL) || next.si_pid == 0)
+		return 0;
+	if (next.si_code == CLD_STOPPED) { /* the program may stop it again at once: that is another stop */
+		kill(next.si_pid, SIGCONT); /* it cannot fail: it was not waited for */
+		return -1;
+	}
+	stops[at].id = next.si_pid;
+	stops[at].status = next.si_status;
+	return 1;
+}
+
+/* Takes the next event. Returns 0 if there is none, 1 for a stop, and -1 for one that needs no answer. A death was reported
+   already. */
 static int take_next(size_t at)
 {
 	siginfo_t next;
 	next.si_pid = 0;
 	if (waitid(P_ALL, 0, &next, WEXITED | WSTOPPED | WNOHANG | WNOWAIT | __WALL) || next.si_pid == 0)
 		return 0;
+	if (next.si_code == CLD_STOPPED || next.si_code == CLD_TRAPPED) {
+		int taken = take_stop(at);
+		return taken ? taken : -1; /* killed in between; the next look finds its death */
+	}
 	id_t id = (id_t)next.si_pid;
-	if (next.si_code == CLD_STOPPED) { /* of makhloeum itself: the program has stopped it */
-		/* in this order, since the program may stop it again at once: that stop is not the one that is taken here */
-		waitid(P_PID, id, &next, WSTOPPED | WNOHANG); /* it fails if the stop has ended already */
-		kill((pid_t)id, SIGCONT); /* it cannot fail: it was not waited for */
-		return -1;
-	}
-	if (next.si_code == CLD_TRAPPED) {
-		next.si_pid = 0; /* killed in between; the next look finds its death */
-		if (waitid(P_PID, id, &next, WSTOPPED | WNOHANG | __WALL) || next.si_pid == 0)
-			return -1;
-		stops[at].id = (pid_t)id;
-		stops[at].status = next.si_status;
-		return 1;
-	}
 	on_end((pid_t)id);
 	int status;
 	if (waitpid((pid_t)id, &status, WNOHANG | __WALL) != (pid_t)id)
@@ -319,14 +355,19 @@ static int take_next(size_t at)
 	return -1;
 }
 
+/* New children are answered first: a creator by vfork waits for its own anyway. */
 bool tracer_look(void)
 {
-	size_t count = 0;
-	int taken = 0;
+	int taken = take_stop(0); /* most events are stops */
+	size_t count = taken > 0;
 	for (int i = 0; i < 2 * STOPS && count < STOPS && (taken = take_next(count)); i++)
 		count += taken > 0;
 	for (size_t i = 0; i < count; i++)
-		on_stop(stops[i].id, stops[i].status);
+		if (is_pause(stops[i].status))
+			on_stop(stops[i].id, stops[i].status);
+	for (size_t i = 0; i < count; i++)
+		if (!is_pause(stops[i].status))
+			on_stop(stops[i].id, stops[i].status);
 	return taken != 0;
 }
 

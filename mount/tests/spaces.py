@@ -12,7 +12,7 @@ import threading
 from support import AT, PATIENCE, PROGRAM, error_of, finish, inside, into, libc, line_of, read, same, step, until, write
 
 ME = os.path.realpath(__file__)
-CLONE_NEWCGROUP = 0x02000000
+CLONE_NEWNS, CLONE_NEWCGROUP, CLONE_NEWUSER = 0x20000, 0x02000000, 0x10000000
 
 
 def shell(script, *before):
@@ -525,6 +525,72 @@ def closed():
             same("a descriptor %r, dumpable %d" % (name.replace(str(held), "N"), dumpable), got, "ENOENT")
 
 
+def changed(change, name, gains=True):
+    """What is read by a path that leads to a text only after a call that changes the root or its mounts, the first of its run."""
+    os.mkdir(AT + "/a")
+    into("/a")
+    r, w = os.pipe()
+    pid = os.fork()
+    if pid == 0:
+        if gains:
+            os.close(os.open("/etc/hostname", os.O_RDONLY))
+            libc.unshare(CLONE_NEWUSER)
+        change()
+        os.write(w, read(name) if error_of(read, name) == "ok" else error_of(read, name).encode())
+        os._exit(0)
+    os.waitpid(pid, 0)
+    same("what is read", os.read(r, 99), b"0::/a\n")
+
+
+def bind_proc(at):
+    if libc.mount(b"/proc", at.encode(), None, BIND | REC, None):
+        raise OSError(ctypes.get_errno(), "mount")
+
+
+def by_chroot():
+    changed(lambda: os.chroot("/proc"), "/self/cgroup")
+
+
+def by_unshare():
+    home = tempfile.mkdtemp()
+    changed(lambda: (libc.unshare(CLONE_NEWNS), bind_proc(home)), home + "/self/cgroup")
+
+
+def by_clone():
+    """The child has the namespace. Its creator waits for it, and ends as it did."""
+    home = tempfile.mkdtemp()
+
+    def clone():
+        pid = libc.syscall(56 if os.uname().machine == "x86_64" else 220, CLONE_NEWNS | signal.SIGCHLD, 0, 0, 0, 0)
+        if pid:
+            os._exit(os.waitpid(pid, 0)[1])
+        bind_proc(home)
+
+    changed(clone, home + "/self/cgroup")
+
+
+def by_setns():
+    """Into a namespace of a process outside, which entered the user namespace of this one."""
+    print(os.getpid(), flush=True)
+    other, home = sys.stdin.readline().split()
+    space = os.open("/proc/%s/ns/mnt" % other, os.O_RDONLY)
+    changed(lambda: libc.setns(space, 0), home + "/self/cgroup", gains=False)
+
+
+def by_pivot_root():
+    home = tempfile.mkdtemp()
+
+    def pivot():
+        libc.mount(home.encode(), home.encode(), None, BIND, None)
+        os.mkdir(home + "/p")
+        os.mkdir(home + "/old")
+        bind_proc(home + "/p")
+        os.chdir(home)
+        libc.syscall(155 if os.uname().machine == "x86_64" else 41, b".", b"old")
+
+    changed(pivot, "/p/self/cgroup", gains=False)
+
+
 def mount(where, kind="cgroup2", data=None):
     if libc.mount(b"none", where.encode(), kind.encode(), 0, data):
         raise OSError(ctypes.get_errno(), "mount")
@@ -649,8 +715,9 @@ INSIDE = (
     unprivileged,
 )
 OPTIONS = {unprivileged: [], closed: [], uncounted: ["--root", "--threads=no"], cpusets: ["--root", "--keep", "cpuset"]}
-inside(*INSIDE)
-for test in INSIDE:
+FIRST = (by_chroot, by_unshare, by_clone, by_setns, by_pivot_root)
+inside(*INSIDE, *FIRST)
+for test in INSIDE if sys.argv[1:] != ["roots"] else ():
     how = OPTIONS.get(test, ["--root"])
     ran = subprocess.run(
         [PROGRAM, "run", *how, sys.executable, ME, "inside", test.__name__],
@@ -658,5 +725,26 @@ for test in INSIDE:
         stderr=subprocess.PIPE,
     )
     same("the status of %s" % test.__name__, (ran.returncode, ran.stderr), (0, b""))
-apart()
+if sys.argv[1:] != ["roots"]:
+    apart()
+for test in FIRST:
+    if test in (by_setns, by_pivot_root) and os.geteuid():
+        step("%s is left out: only the superuser may" % test.__name__, True)
+        continue
+    words = [PROGRAM, "run", sys.executable, ME, "inside", test.__name__]
+    ran = subprocess.Popen(words, stdin=subprocess.PIPE, stdout=subprocess.PIPE, text=True)
+    there = None
+    if test is by_setns:
+        home, pid = tempfile.mkdtemp(), ran.stdout.readline().strip()
+        script = 'mount --rbind /proc "$1"; echo; exec sleep 600'
+        words = ["nsenter", "-t", pid, "-U", "-m", "--preserve-credentials", "unshare", "-m", "sh", "-ec", script, "sh"]
+        there = subprocess.Popen([*words, home], stdout=subprocess.PIPE)
+        there.stdout.readline()
+        ran.stdin.write("%d %s\n" % (there.pid, home))
+        ran.stdin.flush()
+    print(ran.communicate(timeout=6 * PATIENCE)[0], end="")
+    same("the status of %s" % test.__name__, ran.returncode, 0)
+    if there:
+        there.kill()
+        there.wait()
 finish()
