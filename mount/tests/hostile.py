@@ -255,11 +255,16 @@ def error_text(name):
 
 def full_trace():
     """The trace can't be written any more: no fork is made that is not in it."""
+    for call in ("os.fork()", "os.posix_spawn('/bin/true', ['true'], {})"):  # that is a vfork
+        fill(call)
+
+
+def fill(call):
     trace = os.path.join(tempfile.mkdtemp(), "trace")
     code = (
-        "import os\nmade = 0\nfor i in range(200):\n try: pid = os.fork()\n except OSError: continue\n"
+        "import os\nmade = 0\nfor i in range(200):\n try: pid = %s\n except OSError: continue\n"
         " if pid == 0: os._exit(0)\n made += 1\n os.waitpid(pid, 0)\nstrangers = 0\n"
-        "try:\n while os.waitpid(-1, 0): strangers += 1\nexcept ChildProcessError: print(made, strangers)"
+        "try:\n while os.waitpid(-1, 0): strangers += 1\nexcept ChildProcessError: print(made, strangers)" % call
     )
     ran = subprocess.run(
         [PROGRAM, "run", "--trace", trace, sys.executable, "-c", code],
