@@ -7,7 +7,6 @@
 #include <pthread.h>
 #include <sched.h>
 #include <signal.h>
-#include <spawn.h>
 #include <stdatomic.h>
 #include <stdbool.h>
 #include <stdio.h>
@@ -192,16 +191,26 @@ static int leader(bool clears, const char *slow)
 	return 3;
 }
 
-/* Once it has read a byte it starts a program, and reads the page; another thread stays. */
-static int reader(void)
+/* Once it has read a byte it makes a child by vfork, which becomes another program or ends, and reads the page. No signal tells it
+   about the end. Another thread stays. */
+static int reader(bool ends)
 {
-	static char *const words[] = { (char *)"sleep", (char *)"600", NULL };
 	pthread_t thread;
-	pid_t child;
+	sigset_t of_children;
 	char byte;
-	if (pthread_create(&thread, NULL, stay, NULL) || write(1, "x", 1) != 1 || read(0, &byte, 1) != 1)
+	sigemptyset(&of_children);
+	sigaddset(&of_children, SIGCHLD);
+	if (sigprocmask(SIG_BLOCK, &of_children, NULL) || pthread_create(&thread, NULL, stay, NULL))
 		return 3;
-	int fd = posix_spawn(&child, "/bin/sleep", NULL, NULL, words, environ) ? -1 : open(page_file, O_RDONLY);
+	if (write(1, "x", 1) != 1 || read(0, &byte, 1) != 1)
+		return 3;
+	pid_t child = vfork();
+	if (child == 0) {
+		if (!ends)
+			execl("/bin/sleep", "sleep", "600", (char *)NULL);
+		_exit(0);
+	}
+	int fd = child < 0 ? -1 : open(page_file, O_RDONLY);
 	return read(fd, &byte, 1) == 1 ? 0 : 3;
 }
 
@@ -220,7 +229,7 @@ int main(int argc, char **argv)
 	else if (strcmp(what, "cleared") == 0)
 		return leader(true, argc > 3 ? argv[3] : NULL);
 	else if (strcmp(what, "reader") == 0)
-		return reader();
+		return reader(argc > 3);
 	else if (strcmp(what, "sixteen") == 0 || strcmp(what, "full") == 0 || strcmp(what, "opens") == 0) {
 		int status = what[0] == 's' ? sixteen(40) : what[0] == 'f' ? full(512) : opens(500, 516, atoi(argv[argc - 1]));
 		fflush(stdout);

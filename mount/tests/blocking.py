@@ -5,6 +5,7 @@ import ctypes
 import glob
 import os
 import re
+import select
 import shutil
 import signal
 import socket
@@ -218,12 +219,12 @@ def ended():
     p.kill()
 
 
-def reading(program=BLOCKING):
+def reading(program=BLOCKING, *words, then=b"populated 1\nfrozen 1\n"):
     """A process that was frozen and thawed has made a child by vfork, and waits in a read that no stop ends. It is not frozen again,
     though its other thread and its child are."""
     os.mkdir(AT + "/a")
     p = subprocess.Popen(
-        [program, "reader", PAGE], stdin=subprocess.PIPE, stdout=subprocess.PIPE, preexec_fn=lambda: into("/a")
+        [program, "reader", PAGE, *words], stdin=subprocess.PIPE, stdout=subprocess.PIPE, preexec_fn=lambda: into("/a")
     )
     p.stdout.read(1)
     events = lambda: read(AT + "/a/cgroup.events")
@@ -235,18 +236,78 @@ def reading(program=BLOCKING):
     step("it reads", until(lambda: os.path.exists(os.path.dirname(PAGE) + "/asked")))
     write(AT + "/a/cgroup.freeze", b"1")
     same("it does not stop", events(), b"populated 1\nfrozen 0\n")
+    other = "%d/task/%d" % (p.pid, other_thread(p.pid))
+    step("its other thread has stopped", until(lambda: stat_of(other)[0] == b"t"))
     step("others still run", forks())
     same("nor later", events(), b"populated 1\nfrozen 0\n")
     p.kill()
     same("it is killed", p.wait(PATIENCE), -signal.SIGKILL)
-    step("its child is frozen", until(lambda: events() == b"populated 1\nfrozen 1\n"))
+    step("whoever is left is frozen", until(lambda: events() == then))
     write(AT + "/a/cgroup.kill", b"1")
     step("the supervisor rests", rests())
+
+
+def childless():
+    """The same once the child has ended, and not become another program."""
+    reading(BLOCKING, "ends", then=b"populated 0\nfrozen 1\n")
 
 
 def unread():
     """The same of a program that its user may not read: the kernel does not say whether its first thread has memory."""
     reading(BLOCKING + "-unread")
+
+
+READS = """
+import os, sys, time
+os.read(os.open(sys.argv[1], os.O_RDONLY), 1)
+while True:
+    os.write(1, b"x")
+    time.sleep(0.01)
+"""
+
+
+def overtaken():
+    """A process stops after its group was thawed, and before the supervisor hears of that. At the next freeze it has not stopped yet."""
+    os.mkdir(AT + "/a")
+    stalled, supervisor = os.path.dirname(PAGE), tracer()
+    p = subprocess.Popen(
+        [sys.executable, "-c", READS, stalled + "/late"], stdout=subprocess.PIPE, preexec_fn=lambda: into("/a")
+    )
+    events = lambda: read(AT + "/a/cgroup.events")
+
+    def runs():
+        """Whether it writes more than it has written."""
+        if select.select([p.stdout], [], [], 0)[0]:
+            os.read(p.stdout.fileno(), 1 << 20)
+        return select.select([p.stdout], [], [], PATIENCE)[0] != []
+
+    def alone(call):
+        """What a call returns while the supervisor is stopped."""
+        os.kill(supervisor, signal.SIGSTOP)
+        got = call() if until(lambda: stat_of(supervisor)[0] == b"T") else "the supervisor does not stop"
+        os.kill(supervisor, signal.SIGCONT)
+        return got
+
+    def thaw():
+        """Lets the read end, and thaws the process once it has stopped."""
+        os.path.exists(stalled + "/go")
+        stops = until(lambda: stat_of(p.pid)[0] == b"t")
+        write(AT + "/a/cgroup.freeze", b"0")
+        return stops
+
+    def freeze():
+        write(AT + "/a/cgroup.freeze", b"1")
+        return runs(), events()
+
+    step("it reads", until(lambda: os.path.exists(stalled + "/asked")))
+    write(AT + "/a/cgroup.freeze", b"1")
+    step("others run, so the supervisor has told it to stop", forks(1))
+    same("it does not stop", events(), b"populated 1\nfrozen 0\n")
+    same("it stops", alone(thaw), True)
+    step("and runs again", runs())
+    same("frozen by nobody", alone(freeze), (True, b"populated 1\nfrozen 0\n"))
+    step("and by the supervisor", until(lambda: events() == b"populated 1\nfrozen 1\n"))
+    p.kill()
 
 
 def waiting():
@@ -424,7 +485,9 @@ INSIDE = {
     clearing: [],
     ended: [],
     reading: [],
+    childless: [],
     unread: [],
+    overtaken: [],
     waiting: [],
     crowded: [],
     opening: [],

@@ -281,26 +281,27 @@ def kinds():
         write(AT + group + "/cgroup.kill", b"1\n")
 
 
-def state(pid):
-    return open("/proc/%d/stat" % pid).read().rpartition(")")[2].split()[0]
+def state(task):
+    return open("/proc/%s/stat" % task).read().rpartition(")")[2].split()[0]
 
 
 VFORK = """
-import os, sys
+import os, sys, threading, time
+if sys.argv[2:]:
+    threading.Thread(target=time.sleep, args=(600,), daemon=True).start()
 os.posix_spawn("/bin/sleep", ["sleep", "600"], {}, file_actions=[(os.POSIX_SPAWN_OPEN, 9, sys.argv[1], os.O_WRONLY, 0)])
 os.write(1, b"x")
 """
 
 
-def vforked():
-    """A process waits for its child's exec while it is frozen. The child, in another group, goes on."""
+def vforking(*words):
+    """A process in /a that waits for its child's exec; the child, in /b; and the fifo that the child opens before the exec."""
     os.mkdir(AT + "/a")
     os.mkdir(AT + "/b")
-    home = tempfile.mkdtemp()
-    fifo = home + "/fifo"
+    fifo = tempfile.mkdtemp() + "/fifo"
     os.mkfifo(fifo)
     parent = subprocess.Popen(
-        [sys.executable, "-c", VFORK, fifo],
+        [sys.executable, "-c", VFORK, fifo, *words],
         stdout=subprocess.PIPE,
         preexec_fn=lambda: write(AT + "/a/cgroup.procs", b"0\n"),
     )
@@ -312,17 +313,78 @@ def vforked():
         until(lambda: (state(parent.pid), state(child)) == ("D", "S")),
     )
     write(AT + "/b/cgroup.procs", b"%d\n" % child)
+    return parent, child, fifo
+
+
+def thaws(parent, fifo):
+    """The end of such a process."""
+    freeze("/a", 0)
+    same("and goes on once it is thawed", (parent.wait(PATIENCE), parent.stdout.read(1)), (0, b"x"))
+    parent.stdout.close()
+    write(AT + "/b/cgroup.kill", b"1")
+    shutil.rmtree(os.path.dirname(fifo))
+
+
+def vforked():
+    """A process waits for its child's exec while it is frozen. The child, in another group, goes on."""
+    parent, child, fifo = vforking()
     freeze("/a", 1)
     becomes("the parent is frozen", "/a", FROZEN)
     os.close(os.open(fifo, os.O_RDONLY))
     step("the child is another program", until(lambda: line_of(child).startswith(b"sleep")))
     while_others_run(40)
     same("the parent rests", select.select([parent.stdout], [], [], 0)[0], [])
-    freeze("/a", 0)
-    same("and goes on once it is thawed", (parent.wait(PATIENCE), parent.stdout.read(1)), (0, b"x"))
-    parent.stdout.close()
-    write(AT + "/b/cgroup.kill", b"1")
-    shutil.rmtree(home)
+    thaws(parent, fifo)
+
+
+def at_once():
+    """The same with another thread, which a signal has stopped and another signal continues. The supervisor hears of that, of the exec,
+    and of the stop of the first thread at once: nobody is told that the process runs."""
+    signal.pthread_sigmask(signal.SIG_BLOCK, [signal.SIGCHLD])  # at a signal this process waits for the supervisor
+    parent, child, fifo = vforking("beside")
+    supervisor = tracer()
+    other = next(int(n) for n in os.listdir("/proc/%d/task" % parent.pid) if int(n) != parent.pid)
+    beside = "%d/task/%d" % (parent.pid, other)
+
+    def others_run():
+        """A child is made and ends: so the supervisor has answered each stop that there was."""
+        pid = os.fork()
+        if pid == 0:
+            os._exit(0)
+        os.waitpid(pid, 0)
+
+    def switches():
+        line = next(x for x in open("/proc/%s/status" % beside) if x.startswith("voluntary_ctxt_switches"))
+        return int(line.split()[1])
+
+    same("a signal to the other thread", libc.tgkill(parent.pid, other, signal.SIGSTOP), 0)
+    for what in ("at the signal", "and is stopped by it"):
+        step("it stops " + what, until(lambda: state(beside) == "t"))
+        others_run()
+    freeze("/a", 1)
+    becomes("the parent is frozen", "/a", FROZEN)
+    fd = os.open(AT + "/a/cgroup.events", os.O_RDONLY)
+    same("the file reads", os.pread(fd, 100, 0), b"populated 1\n" + FROZEN)
+    poller = select.poll()
+    poller.register(fd, select.POLLPRI)
+    same("nothing has changed", poller.poll(0), [])
+    os.kill(supervisor, signal.SIGSTOP)
+    is_alone, before = until(lambda: state(supervisor) == "T"), switches()
+    os.kill(parent.pid, signal.SIGCONT)
+    is_continued = until(lambda: switches() > before and state(beside) == "t")
+    os.close(os.open(fifo, os.O_RDONLY))
+    both_stop = until(lambda: state(child) + state(parent.pid) == "tt")
+    os.kill(supervisor, signal.SIGCONT)
+    same(
+        "while the supervisor is stopped, the other thread stops again, and so do both after the exec",
+        (is_alone, is_continued, both_stop),
+        (True, True, True),
+    )
+    step("the child runs", until(lambda: state(child) == "S"))
+    others_run()
+    same("nobody is told", (poller.poll(0), os.pread(fd, 100, 0)), ([], b"populated 1\n" + FROZEN))
+    os.close(fd)
+    thaws(parent, fifo)
 
 
 EXECS = """
@@ -530,7 +592,7 @@ def undone():
     one.end()
 
 
-INSIDE = (stops, moves, kinds, vforked, executed, again, signals, itself, first, told, many, wide, undone)
+INSIDE = (stops, moves, kinds, vforked, at_once, executed, again, signals, itself, first, told, many, wide, undone)
 if sys.argv[1:2] == ["inside"]:
     {t.__name__: t for t in INSIDE}[sys.argv[2]]()
     for one in runner:
