@@ -1,34 +1,33 @@
 #include "listed.h"
 #include "engine.h"
 #include "shown.h"
-#include "tasks.h"
 #include <stdlib.h>
 #include <string.h>
 
-static int each_in(const char *group, bool zombies, int (*take)(pid_t pid, const char *group))
+static int each_in(const char *group, bool all, int (*take)(pid_t pid, const char *group))
 {
 	size_t size;
 	int fault = engine_look("cat %s cgroup.procs", group);
 	if (fault)
 		return fault;
 	const char *text = engine_text(&size);
-	if (!zombies && (fault = shown_text(group, file_named("cgroup.procs", true), &text, &size)))
+	if (!all && (fault = shown_text(group, file_named("cgroup.procs", true), &text, &size)))
 		return fault;
 	for (const char *end = text + size; text < end && fault == 0;) {
 		pid_t pid = (pid_t)strtol(text, NULL, 10);
-		fault = tasks_is_thread(pid) ? 0 : take(pid, group);
+		fault = take(pid, group);
 		text = (const char *)memchr(text, '\n', (size_t)(end - text)) + 1;
 	}
 	return fault;
 }
 
-int listed_each(const char *top, bool zombies, int (*take)(pid_t pid, const char *group))
+int listed_each(const char *top, bool all, int (*take)(pid_t pid, const char *group))
 {
 	const char *paths;
 	size_t count;
 	WANTS_LOCK();
 	int fault = engine_groups(top, &paths, &count);
 	for (; fault == 0 && count--; paths += strlen(paths) + 1)
-		fault = each_in(paths, zombies, take);
+		fault = each_in(paths, all, take);
 	return fault;
 }

@@ -6,7 +6,7 @@
 #include <sys/types.h>
 
 /* Requires the engine's lock. Calls `take` for each process, with its group, until one does not return 0, and returns that;
-   or -errno if the processes cannot be listed. Zombies come too if `zombies` says so. */
-int listed_each(const char *top, bool zombies, int (*take)(pid_t pid, const char *group));
+   or -errno if the processes cannot be listed. With `all` every number comes: zombies and threads too. */
+int listed_each(const char *top, bool all, int (*take)(pid_t pid, const char *group));
 
 #endif

@@ -8,6 +8,7 @@
 #include "reserved.h"
 #include "room.h"
 #include "status.h"
+#include "tasks.h"
 #include "watch.h"
 #include <dirent.h>
 #include <errno.h>
@@ -294,8 +295,8 @@ void real_disown(pid_t pid)
 static int note(pid_t pid, const char *group)
 {
 	(void)group;
-	if (way != REPORTED && (!is_known(pid) || has_ended(pid)))
-		return 0;
+	if (way == REPORTED ? tasks_is_thread(pid) : !is_known(pid) || has_ended(pid))
+		return 0; /* a thread is killed with its process */
 	pid_t *more = with_room(noted, noted_count + 1, &noted_room, sizeof *more);
 	if (!more)
 		return -ENOMEM;

@@ -436,6 +436,31 @@ def left_behind():
     finally_empty(b)
 
 
+def brought_back():
+    """An undo brings back the number of a thread that has ended. Its group isn't empty, whoever has died elsewhere."""
+    a, b = (top / "a").make(), (top / "b").make()
+    t = Tasks(a)
+    [other] = t.make(1)
+    t.ask("end")
+    becomes("a thread ends", a.current, 1)
+    b.take(t.pid)
+    top.write(".makhloeum/undo", 2)
+    same("two undos bring it back", (a.current(), b.current()), (2, 0))
+    b.take(t.pid)
+    same("its process moves without it", (a.current(), b.current()), (1, 1))
+    same("its group can't go", error_of(os.rmdir, a.top), "EBUSY")
+    zombie = os.fork()
+    if zombie == 0:
+        os._exit(0)
+    os.waitid(os.P_PID, zombie, os.WEXITED | os.WNOWAIT)
+    same("nor beside a zombie elsewhere", error_of(os.rmdir, a.top), "EBUSY")
+    os.waitpid(zombie, 0)
+    top.write(".makhloeum/exit", other)
+    same("without it it can", error_of(os.rmdir, a.top), "ok")
+    t.end()
+    finally_empty(b)
+
+
 def undone():
     a, b = (top / "a").make(), (top / "b").make()
     t = Tasks(a)
@@ -635,7 +660,7 @@ def full():
     t.end()
 
 
-INSIDE = (*AS_THE_KERNEL, left_behind, undone, forgotten, taken_back, joined, stopped_server, mixed, uncounted, full)
+INSIDE = (*AS_THE_KERNEL, left_behind, brought_back, undone, forgotten, taken_back, joined, stopped_server, mixed, uncounted, full)
 
 # ---------------------------------------------------------------- outside
 
