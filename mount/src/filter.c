@@ -137,7 +137,6 @@ bool filter_stops(long call, const uint64_t args[6])
 	case __NR_fork:
 	case __NR_vfork:
 #endif
-		return true;
 	case __NR_setns:
 	case __NR_chroot:
 	case __NR_pivot_root:

@@ -660,7 +660,19 @@ def full():
     t.end()
 
 
-INSIDE = (*AS_THE_KERNEL, left_behind, brought_back, undone, forgotten, taken_back, joined, stopped_server, mixed, uncounted, full)
+INSIDE = (
+    *AS_THE_KERNEL,
+    left_behind,
+    brought_back,
+    undone,
+    forgotten,
+    taken_back,
+    joined,
+    stopped_server,
+    mixed,
+    uncounted,
+    full,
+)
 
 # ---------------------------------------------------------------- outside
 
