@@ -223,15 +223,15 @@ static void at_call(struct thread *t)
 	stops_run(t->id, 0);
 }
 
-static bool is_pause(int status)
+static bool is_vfork(int status)
 {
-	return status >> 8 == PTRACE_EVENT_STOP;
+	return status >> 8 == PTRACE_EVENT_VFORK;
 }
 
 static void on_stop_of(pid_t id, struct thread *t, int status)
 {
 	int event = status >> 8, signal = status & 0x7f;
-	if (is_pause(status)) {
+	if (event == PTRACE_EVENT_STOP) {
 		on_pause(id, signal);
 		return;
 	}
@@ -355,7 +355,7 @@ static int take_next(size_t at)
 	return -1;
 }
 
-/* New children are answered first: a creator by vfork waits for its own anyway. */
+/* A creator by vfork waits for its child, so the child is answered first. */
 bool tracer_look(void)
 {
 	int taken = take_stop(0); /* most events are stops */
@@ -363,10 +363,10 @@ bool tracer_look(void)
 	for (int i = 0; i < 2 * STOPS && count < STOPS && (taken = take_next(count)); i++)
 		count += taken > 0;
 	for (size_t i = 0; i < count; i++)
-		if (is_pause(stops[i].status))
+		if (!is_vfork(stops[i].status))
 			on_stop(stops[i].id, stops[i].status);
 	for (size_t i = 0; i < count; i++)
-		if (!is_pause(stops[i].status))
+		if (is_vfork(stops[i].status))
 			on_stop(stops[i].id, stops[i].status);
 	return taken != 0;
 }
