@@ -19,8 +19,8 @@
 #include <sys/socket.h>
 #include <unistd.h>
 
-/* READERS: how many answers to the supervisor the program may keep waiting before others are not asked for. ANSWERERS: how many opens it may keep
-   waiting before others pass unseen. */
+/* READERS: how many answers to the supervisor the program may keep waiting before others are not asked for. ANSWERERS: how many
+   opens it may keep waiting before others pass unseen. */
 enum {
 	READERS = 512,
 	READERS_AT_FIRST = 15,
