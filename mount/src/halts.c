@@ -127,7 +127,7 @@ void halts_vforks(struct thread *t)
 
 void halts_insists(struct thread *t)
 {
-	if (t->frozen && t->started && (t->rest == RUNS || t->rest == VFORKS))
+	if (t->frozen && t->started && t->rest == RUNS)
 		stops_interrupt(t->id);
 }
 

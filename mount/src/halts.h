@@ -18,7 +18,7 @@ void halts_moves(struct thread *t);
 void halts_insists(struct thread *t);
 /* It rests although nobody asked: a signal stopped it. */
 void halts_listens(struct thread *t);
-/* It waits for the child that it has made by vfork, until its next stop. */
+/* It waits for the child that it has made by vfork, until the stop after that. */
 void halts_vforks(struct thread *t);
 /* A frozen process whose first thread may be ending is looked at again. Returns how long until the next look is needed: in
    milliseconds, -1 for never. */
