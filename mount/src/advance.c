@@ -1,8 +1,8 @@
 #include "advance.h"
+#include "shared.h"
 #include <stdatomic.h>
 #include <stddef.h>
 #include <stdint.h>
-#include <sys/mman.h>
 
 /* Each process has a few places for threads and one for a child, which it shares with others. A place has a process and its
    reservation, or 0. */
@@ -13,12 +13,8 @@ static size_t given; /* by the server, and not taken back by it: the supervisor 
 
 bool advance_begin(void)
 {
-	/* cppcheck-suppress invalidFunctionArg ; without a file the number is -1 */
-	void *shared = mmap(NULL, ALL * sizeof *places, PROT_READ | PROT_WRITE, MAP_SHARED | MAP_ANONYMOUS, -1, 0);
-	if (shared == MAP_FAILED)
-		return false;
-	places = shared;
-	return true;
+	places = shared_new(ALL * sizeof *places);
+	return places != NULL;
 }
 
 static int places_of(bool is_thread)

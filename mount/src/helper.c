@@ -287,6 +287,8 @@ int helper_start(int listener, pid_t program)
 	sigprocmask(SIG_BLOCK, &all, &before);
 	process = fork();
 	if (process == 0) {
+		/* where the kernel shares processors out among sessions, many processes of the program don't leave it less */
+		setsid(); /* it fails only for the leader of a group, which a child is not */
 		if (own_dies_with(self) && share_root(program))
 			serve(listener, ends[1], program);
 		_exit(1);

@@ -1,7 +1,7 @@
 #include "news.h"
+#include "shared.h"
 #include <stdatomic.h>
 #include <stddef.h>
-#include <sys/mman.h>
 
 enum { ROOM = 256 };
 
@@ -17,12 +17,8 @@ static struct shared {
 
 bool news_begin(void)
 {
-	/* cppcheck-suppress invalidFunctionArg ; without a file the number is -1 */
-	void *at = mmap(NULL, sizeof *shared, PROT_READ | PROT_WRITE, MAP_SHARED | MAP_ANONYMOUS, -1, 0);
-	if (at == MAP_FAILED)
-		return false;
-	shared = at;
-	return true;
+	shared = shared_new(sizeof *shared);
+	return shared != NULL;
 }
 
 bool news_tell(unsigned reservation, pid_t thread)

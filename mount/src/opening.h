@@ -8,7 +8,7 @@
 #include <stdint.h>
 #include <sys/types.h>
 
-/* Before the first look. */
+/* Before the first look, and before the program makes a call. */
 void opening_begin(pid_t program);
 /* Whether the file is certainly not of /proc, or is not there, by the usual rules: most are known at little cost. */
 bool opening_stays_outside_proc(pid_t thread, int directory, const char *path, bool follows);

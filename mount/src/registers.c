@@ -36,10 +36,12 @@ void registers_of_clone(const struct registers *r, struct clone_registers *out)
 	*out = (struct clone_registers){ k->rdi, k->rsi, k->rdx, k->r10, k->r8, k->r9 };
 }
 
-bool registers_set_call(pid_t thread, const struct registers *before, long number, const struct clone_registers *args)
+/* A call with these arguments; all else is as in `others`. */
+static bool write_call(pid_t thread, const struct registers *others, unsigned long number,
+	const struct clone_registers *args)
 {
-	struct user_regs_struct k = before->kernel;
-	k.orig_rax = (unsigned long)number;
+	struct user_regs_struct k = others->kernel;
+	k.orig_rax = number;
 	k.rdi = args->flags;
 	k.rsi = args->stack;
 	k.rdx = args->parent_tid;
@@ -47,6 +49,11 @@ bool registers_set_call(pid_t thread, const struct registers *before, long numbe
 	k.r8 = args->tls;
 	k.r9 = args->ticket;
 	return write_all(thread, &k);
+}
+
+bool registers_set_call(pid_t thread, const struct registers *before, long number, const struct clone_registers *args)
+{
+	return write_call(thread, before, (unsigned long)number, args);
 }
 
 bool registers_set_ticket(pid_t thread, const struct registers *before, unsigned long ticket)
@@ -57,16 +64,9 @@ bool registers_set_ticket(pid_t thread, const struct registers *before, unsigned
 
 bool registers_restore(pid_t thread, const struct registers *now, const struct registers *before)
 {
-	const struct user_regs_struct *b = &before->kernel;
-	struct user_regs_struct k = now->kernel;
-	k.orig_rax = b->orig_rax;
-	k.rdi = b->rdi;
-	k.rsi = b->rsi;
-	k.rdx = b->rdx;
-	k.r10 = b->r10;
-	k.r8 = b->r8;
-	k.r9 = b->r9;
-	return write_all(thread, &k);
+	struct clone_registers args;
+	registers_of_clone(before, &args);
+	return write_call(thread, now, before->kernel.orig_rax, &args);
 }
 
 bool registers_return(pid_t thread, const struct registers *before, int result)

@@ -1,18 +1,14 @@
 #include "roots.h"
+#include "shared.h"
 #include <stdatomic.h>
 #include <stddef.h>
-#include <sys/mman.h>
 
 static atomic_bool *changed; /* shared by the supervisor and the helper */
 
 bool roots_begin(void)
 {
-	/* cppcheck-suppress invalidFunctionArg ; without a file the number is -1 */
-	void *at = mmap(NULL, sizeof *changed, PROT_READ | PROT_WRITE, MAP_SHARED | MAP_ANONYMOUS, -1, 0);
-	if (at == MAP_FAILED)
-		return false;
-	changed = at;
-	return true;
+	changed = shared_new(sizeof *changed);
+	return changed != NULL;
 }
 
 void roots_change(void)

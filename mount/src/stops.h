@@ -17,8 +17,9 @@ void stops_run(pid_t thread, int signal);
 void stops_run_call(pid_t thread);
 /* The call that it is about to make is not made, and returns this: 0 or -errno. */
 void stops_return(pid_t thread, const struct registers *before, int result);
-/* In a call, which has no result yet, or after it: its registers are as before it, but for the result. `now`: what they are. */
+/* In a call that has no result yet: its registers are as before the call. */
 void stops_restore_in(pid_t thread, const struct registers *before);
+/* After a call: its arguments are as before the call; the result stays. `now`: what its registers are. */
 void stops_restore(pid_t thread, const struct registers *now, const struct registers *before);
 /* It stays stopped as a signal has stopped it, until it is continued. */
 void stops_listen(pid_t thread);

@@ -32,8 +32,7 @@
 #include <sys/wait.h>
 #include <unistd.h>
 
-/* At most STOPS are taken at once, before any of them is answered: no thread is handled twice while another waits.
-    */
+/* At most STOPS are taken at once, before any of them is answered: no thread is handled twice while another waits. */
 enum { STOPS = 1024, PATIENCE = 2000 };
 
 static pid_t program;
@@ -263,13 +262,25 @@ static void on_stop_of(pid_t id, struct thread *t, int status)
 	}
 }
 
+/* A stop that was taken and is to be answered. `alone`: whether the thread was, when it was taken. */
+struct stop {
+	pid_t id;
+	int status;
+	bool alone;
+};
+
+/* Whether no other thread of its process can get its number by an execve. */
+static bool is_alone(pid_t id)
+{
+	const struct thread *t = threads_find(id);
+	return !t || t->id != t->process || t->members == 1;
+}
+
 /* Between the look and the answer another thread of the process may have called execve: then its stop now has the number of the
    first, and is handled at the next look. */
-static bool stands_there(const struct thread *t, pid_t id, int status)
+static bool stands_there(pid_t id, int status)
 {
 	siginfo_t now;
-	if (!t || t->id != t->process || t->members == 1)
-		return true;
 	if (ptrace(PTRACE_GETSIGINFO, id, 0, &now))
 		return true; /* a stop of the whole process has no such record */
 	if (status >> 8 || status == (SIGTRAP | 0x80))
@@ -277,14 +288,16 @@ static bool stands_there(const struct thread *t, pid_t id, int status)
 	return now.si_signo == status;
 }
 
-static void on_stop(pid_t id, int status)
+static void on_stop(const struct stop *stop)
 {
+	pid_t id = stop->id;
 	struct thread *t = threads_find(id);
-	if (!stands_there(t, id, status))
+	/* the process has other threads now, or had some when the stop was taken */
+	if (!(stop->alone && is_alone(id)) && !stands_there(id, stop->status))
 		return;
 	if (t)
 		halts_moves(t);
-	on_stop_of(id, t, status);
+	on_stop_of(id, t, stop->status);
 	if (!(t = threads_find(id)))
 		return;
 	halts_insists(t);
@@ -309,10 +322,7 @@ static void on_end(pid_t id)
 
 /* ---------------------------------------------------------------- all of them */
 
-static struct {
-	pid_t id;
-	int status;
-} stops[STOPS];
+static struct stop stops[STOPS];
 
 /* Takes a stop. Returns 0 if there is none, 1 for one of the program, and -1 for one of makhloeum itself. */
 static int take_stop(size_t at)
@@ -325,8 +335,7 @@ static int take_stop(size_t at)
 		kill(next.si_pid, SIGCONT); /* it cannot fail: it was not waited for */
 		return -1;
 	}
-	stops[at].id = next.si_pid;
-	stops[at].status = next.si_status;
+	stops[at] = (struct stop){ next.si_pid, next.si_status, is_alone(next.si_pid) };
 	return 1;
 }
 
@@ -364,10 +373,10 @@ bool tracer_look(void)
 		count += taken > 0;
 	for (size_t i = 0; i < count; i++)
 		if (!is_vfork(stops[i].status))
-			on_stop(stops[i].id, stops[i].status);
+			on_stop(&stops[i]);
 	for (size_t i = 0; i < count; i++)
 		if (is_vfork(stops[i].status))
-			on_stop(stops[i].id, stops[i].status);
+			on_stop(&stops[i]);
 	return taken != 0;
 }
 

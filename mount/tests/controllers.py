@@ -1,5 +1,6 @@
 """--keep: which controllers a group has, and that groups which enable them for their children have no processes."""
 import os
+import select
 import subprocess
 import sys
 
@@ -268,7 +269,13 @@ def each_one():
         for f, value in zip(files, values):
             write(m.path("a", f), value)
         held = [os.open(m.path("a", f), os.O_RDWR) for f in files]
+        events, poller = os.open(m.path("a", "pids.events"), os.O_RDONLY), select.poll()
+        poller.register(events, select.POLLPRI)
+        os.read(events, 99)
         change(m, ".", "-" + name)
+        woken = bool(poller.poll(1000 * PATIENCE if name == "pids" else 0))
+        same("%s is disabled: whether a poll of pids.events ends" % name, woken, name == "pids")
+        os.close(events)
         there = [error_of(read, m.path("a", f)) for f in files]
         same("%s is disabled: which files are there" % name, there, ["ENOENT" if i == lost else "ok" for i in range(5)])
         for call in (lambda fd: os.pread(fd, 99, 0), lambda fd: os.write(fd, b"x")):
@@ -277,6 +284,8 @@ def each_one():
         again = [error_of(lambda: os.close(os.open("/proc/self/fd/%d" % fd, os.O_RDONLY))) for fd in held]
         same("%s: which can be opened again" % name, again, ["ENODEV" if i == lost else "ok" for i in range(5)])
         change(m, ".", "+" + name)
+        got = [error_of(os.pread, fd, 99, 0) == "ENODEV" for fd in held]
+        same("%s is enabled: which open files are gone" % name, got, [i == lost for i in range(5)])
         now = [read(m.path("a", f)) for f in files]
         same("%s is enabled: the values" % name, now, [fresh[i] if i == lost else values[i] for i in range(5)])
         for fd in held:

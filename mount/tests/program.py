@@ -15,7 +15,7 @@ import threading
 import time
 
 from support import AT, CGREPLAY, PATIENCE, PROGRAM, Mount
-from support import error_of, finish, is_alive, libc, read, same, step, until, write
+from support import error_of, finish, is_alive, libc, read, same, server_and_helper, step, until, write
 
 ME = os.path.realpath(__file__)
 
@@ -460,16 +460,12 @@ def ends():
             [PROGRAM, "run", "sh", "-c", "%s; %s" % (SLEEPS[2], SLEEPS[3])], stderr=subprocess.PIPE, text=True
         )
         until(lambda: running(SLEEPS[2]))
-        # the server and the helper have threads, and the server began first
-        pids = sorted(
-            (c for c in children(p.pid) if name_of(c) == "makhloeum" and len(os.listdir("/proc/%d/task" % c)) > 1),
-            key=lambda c: int(open("/proc/%d/stat" % c).read().rpartition(")")[2].split()[19]),
-        )
+        pids = server_and_helper(p.pid)
         same("there are both", len(pids), 2)
         os.kill(p.pid if which == "supervisor" else pids[which == "helper"], signal.SIGKILL)
-        status = p.wait(PATIENCE)
-        same("the %s is killed" % which, status, -9 if which == "supervisor" else 137)
-        same("what is said", p.stderr.read(), why)
+        said = p.communicate(timeout=PATIENCE)[1]  # it has an end once nothing of the run has that pipe
+        same("the %s is killed" % which, p.returncode, -9 if which == "supervisor" else 137)
+        same("what is said", said, why)
         step("its program goes with it", until(lambda: not running(SLEEPS[2])))
         step(
             "and so does every other process",
@@ -479,14 +475,6 @@ def ends():
     until(lambda: running(SLEEPS[4]))
     p.terminate()
     same("SIGTERM is passed on", p.wait(PATIENCE), 143)
-
-
-def children(pid):
-    return [int(x) for x in open("/proc/%d/task/%d/children" % (pid, pid)).read().split()]
-
-
-def name_of(pid):
-    return open("/proc/%d/comm" % pid).read().strip()
 
 
 TRACED = """

@@ -13,8 +13,8 @@ import threading
 import time
 
 from support import PATIENCE, PROGRAM, Beside, Mount, companions_of
-from support import error_of, finish, is_alive, libc, line_of, own_of, parent_of, read, same, status_within
-from support import step, until, write
+from support import error_of, finish, is_alive, libc, line_of, own_of, parent_of, read, same, server_and_helper
+from support import status_within, step, until, write
 
 ME = os.path.realpath(__file__)
 CLIENT = """import os, sys
@@ -289,12 +289,13 @@ def parts():
             os.close(w)
             numbers = lambda: [int(n) for n in os.listdir("/proc") if n.isdigit() and parent_of(int(n)) == p.pid]
             step("it runs", until(lambda: any(line_of(n).startswith(b"sleep") for n in numbers())))
-            # the server leads a session, as the companion does, and has threads, as the helper has
-            found = lambda: {(session_of(n) == n, len(os.listdir("/proc/%d/task" % n)) > 1): n for n in own_of(p.pid)}
-            step("all its parts", until(lambda: len(found()) == 3), found())
+            found = lambda: server_and_helper(p.pid)
+            step("all its parts", until(lambda: len(own_of(p.pid)) == 3 and len(found()) == 2), own_of(p.pid))
+            # where the kernel shares processors out among sessions, the program's processes don't leave them less
+            same("each leads a session", [session_of(n) == n for n in own_of(p.pid)], [True] * 3)
             if not is_heard:
                 os.close(r)
-            os.kill(found()[part == "server", True], signal.SIGKILL)
+            os.kill(found()[part == "helper"], signal.SIGKILL)
             same("the %s is killed: the status of the run" % part, status_within(p), 128 + signal.SIGKILL)
             if is_heard:
                 same("what is said", os.read(r, 999), ("makhloeum: %s\n" % why).encode())

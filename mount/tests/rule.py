@@ -20,7 +20,9 @@ CHECKED = """ptrace fill dup dup2 fcntl pipe pipe2 ioctl syscall epoll_ctl kill 
 recv sendmsg shutdown umount2 setsid pthread_create pthread_join sem_post registers_read registers_restore registers_return
 registers_set_call registers_set_ticket registers_set_result""".split()
 
-SUPERVISOR = "tracer births advance news roots halts threads registers stops strict restarts clones signals own".split()
+SUPERVISOR = (
+    "tracer births advance news shared roots halts threads registers stops strict restarts clones signals own".split()
+)
 # Files whose functions run with the engine's lock. `kept` writes the trace; `real` reads /proc for --adopt.
 SERVER = """engine nodes tree listing control attributes owner remembered opened texts controllers values values_cpu values_io values_memory values_cpuset freezer
 listed reported reserved tasks joined shown zombies place number scan lists files tables""".split()

@@ -299,3 +299,10 @@ def own_of(supervisor):
     line = line_of(supervisor)
     children = (int(n) for n in os.listdir("/proc") if n.isdigit() and line_of(int(n)) == line)
     return [pid for pid in children if parent_of(pid) == supervisor]
+
+
+def server_and_helper(supervisor):
+    """Of a run, once both are there: both have threads, and the server began first."""
+    began = lambda pid: int(open("/proc/%d/stat" % pid).read().rpartition(")")[2].split()[19])
+    threaded = (pid for pid in own_of(supervisor) if len(os.listdir("/proc/%d/task" % pid)) > 1)
+    return sorted(threaded, key=lambda pid: (began(pid), pid))
