@@ -51,9 +51,13 @@ void helper_end(void)
 	close(to_helper);
 }
 
+/* Returns false if too many wait. If the helper has ended, so does the program soon, and waits without an answer until then. */
 static bool request(const struct memory_question *q)
 {
-	if (reading == READERS || send(to_helper, q, sizeof *q, MSG_NOSIGNAL | MSG_DONTWAIT) != sizeof *q)
+	if (reading == READERS)
+		return false;
+	bool sent = send(to_helper, q, sizeof *q, MSG_NOSIGNAL | MSG_DONTWAIT) == sizeof *q;
+	if (!sent && errno != EPIPE && errno != ECONNRESET)
 		return false;
 	reading++;
 	return true;

@@ -223,7 +223,8 @@ static int supervise(char **program, const struct wishes *wishes, int signals, i
 	int helper = is_there ? helper_start(listener, pid) : -1;
 	if (helper < 0 || write(control[0], "", 1) != 1)
 		return give_up(pid, "this machine does not allow seccomp notification");
-	close(listener);
+	/* The listener stays open here. If the helper is killed, calls of the program wait until it is killed too; without a listener
+	   they would fail with ENOSYS. */
 	struct ears ears = { signals, link, helper, freezer };
 	halts_begin(freezer);
 	return watch_over(&ears, pid);

@@ -471,11 +471,47 @@ def ends():
             "and so does every other process",
             until(lambda: not running(re.escape(PROGRAM + " run sh -c " + SLEEPS[2]))),
         )
+    for what, call in CALLS.items():
+        said = {failures_without_helper(CALLED + call) for _ in range(4)}
+        same("the helper is killed: what fails in a program that %s" % what, said, {("", why)})
     p = subprocess.Popen([PROGRAM, "run", *SLEEPS[4].split()])
     until(lambda: running(SLEEPS[4]))
     p.terminate()
     same("SIGTERM is passed on", p.wait(PATIENCE), 143)
 
+
+def failures_without_helper(code):
+    """What fails before the program is killed, and what the run says."""
+    p = subprocess.Popen([PROGRAM, "run", sys.executable, "-c", code], stdout=-1, stderr=-1, text=True)
+    same("eight children run", [p.stdout.readline() for _ in range(8)], ["it runs\n"] * 8)
+    helper = server_and_helper(p.pid)[1]
+    os.kill(p.pid, signal.SIGSTOP)
+    os.kill(helper, signal.SIGKILL)
+    time.sleep(0.1)  # the next calls are made now
+    os.kill(p.pid, signal.SIGCONT)
+    return p.communicate(timeout=PATIENCE)
+
+
+# Eight children make the calls: the first process is killed before all others.
+CALLED = """
+import ctypes, os, signal
+libc = ctypes.CDLL(None, use_errno=True)
+args = (ctypes.c_uint64 * 11)(0, 0, 0, 0, signal.SIGCHLD)
+def worked(result):
+    if result < 0: os.write(1, b"errno %d\\n" % ctypes.get_errno())
+    return result
+if os.fork(): os.wait()
+for _ in range(3): os.fork()
+print("it runs", flush=True)
+"""
+CALLS = {
+    "opens files": "while True: libc.close(worked(libc.open(b'/dev/null', 0)))",
+    "forks": """
+while True:
+    pid = worked(libc.syscall(435, args, 88))
+    libc.waitpid(pid, None, 0) if pid else libc._exit(0)
+""",
+}
 
 TRACED = """
 import ctypes, os
