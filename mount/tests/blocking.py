@@ -620,8 +620,9 @@ def killed():
     others = own_of(p.pid)
     same("its other processes", len(others), 3)
     line = line_of(p.pid)
-    for pid in others:
+    for pid in (p.pid, *others):  # while makhloeum runs, it continues the others
         os.kill(pid, signal.SIGSTOP)
+    step("they are stopped", until(lambda: all(stat_of(pid)[0] == b"T" for pid in others)))
     p.kill()
     p.wait()
     step("nothing is left", until(lambda: all(line_of(pid) != line for pid in others)))
