@@ -331,6 +331,9 @@ def inside(user, group, space):
             with open("%s/%d/%s" % (home, me, name), "w") as f:
                 f.write("mine\n")
             same("a file of another system, PID/" + name, read("%s/%d/%s" % (home, me, name)), b"mine\n")
+        script = 'mount -t tmpfs x "$1" && mkdir "$1/$2" && cd "$1/$2" && for f in cgroup cpuset mounts; do echo mine >$f; cat $f; done'
+        words = ["unshare", "-Urm", "sh", "-c", script, "sh", home, str(me)]
+        same("and of a mount of its own", subprocess.run(words, stdout=-1).stdout, b"mine\n" * 3)
     for name, text in (("cgroup", "0::/h\n"), ("cpuset", "/\n")):
         fd = os.open("/proc/self/" + name, os.O_RDONLY)
         polled = select.poll()
