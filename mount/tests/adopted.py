@@ -6,7 +6,8 @@ import signal
 import subprocess
 import sys
 
-from support import PATIENCE, Mount, error_of, finish, is_alive, libc, parent_of, read, same, spared, step, until, write
+from support import PATIENCE, Beside, Mount
+from support import error_of, finish, is_alive, libc, parent_of, read, same, spared, step, until, write
 
 
 def state_of(pid):
@@ -31,6 +32,14 @@ same("rmdir then", error_of(os.rmdir, m.path("a")), "ok")
 os.mkdir(m.path("b"))
 write(m.path("b", "cgroup.procs"), b"0\n")
 same("0 is the writer", read(m.path("b", "cgroup.procs")), b"%d\n" % os.getpid())
+os.mkdir(m.path("c"))
+for group in ("c", "b"):
+    wrote = Beside(error_of, write, m.path(group, "cgroup.procs"), b"0\n").result()
+    same(
+        "or its process, if it is another thread",
+        (wrote, read(m.path(group, "cgroup.procs"))),
+        ("ok", b"%d\n" % os.getpid()),
+    )
 write(m.path("b", "pids.max"), b"1\n")
 child = subprocess.Popen(["sleep", "600"])
 same("a child beyond the limit is counted once", [read(m.path("b", "pids.events")) for _ in range(3)], [b"max 1\n"] * 3)
