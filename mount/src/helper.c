@@ -51,7 +51,8 @@ void helper_end(void)
 	close(to_helper);
 }
 
-/* Returns false if too many wait. If the helper has ended, so does the program soon, and waits without an answer until then. */
+/* Returns false if the helper can't take another one now. If it has ended, so does the program soon, and waits without an answer
+   until then. */
 static bool request(const struct memory_question *q)
 {
 	if (reading == READERS)
