@@ -3,7 +3,8 @@
 
 It was written from the rules of the hierarchy and the formats (docs/FORMATS.md) alone and shares no code with the program. It
 keeps two maps, one from paths to attributes and one from processes to paths, and undoes a command by the entries that the
-command changed. evidence/sizes and the tests in Python with random commands take expected answers from it.
+command changed. evidence/sizes, bindings/models and the tests in Python with random commands take expected
+answers from it.
 
 A path is a tuple of names; the root is ().
 """

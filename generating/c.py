@@ -58,26 +58,35 @@ C_VALUES = {None: "NOTHING", "pid": "A_PID", "groups-limit": "A_COUNT", "pids-li
 # What a mount adds with --extra, as C has it: name, on the root, text, and the word that may be written.
 CONSTANTS = (
     ("cgroup.controllers", True, '"pids\\n"', None),
-    ("cgroup.freeze", False, '"0\\n"', "0"),
     ("cgroup.subtree_control", True, '"pids\\n"', "+pids"),
     ("cgroup.type", False, '"domain\\n"', "domain"),
     ("cpu.stat", True, "CPU_STAT", None),
 )
+# What it adds whose text changes: name, on the root, what may be written, and the file of the engine that has its text.
+MADE = (("cgroup.freeze", False, "A_SWITCH", None), ("cgroup.threads", True, "NOTHING", "cgroup.procs"))
 
 
 def c_files():
     lines = {}
     for file in FILES:
         truths = ", ".join(in_c(truth) for truth in (file.on_root, file.readable, file.written))
-        lines[file.name] = f'\t{{ {{ "{file.name}", {truths}, NULL }}, {C_VALUES[file.written]}, NULL }},'
+        lines[
+            file.name
+        ] = f'\t{{ {{ "{file.name}", {truths}, NULL }}, {C_VALUES[file.written]}, NULL, "{file.name}" }},'
     for name, on_root, text, word in CONSTANTS:
         truths, value = f"{in_c(on_root)}, true, {in_c(word)}", "NO_CHANGE" if word else "NOTHING"
-        lines[name] = f'\t{{ {{ "{name}", {truths}, {text} }}, {value}, {quoted(word) if word else "NULL"} }},'
+        lines[name] = f'\t{{ {{ "{name}", {truths}, {text} }}, {value}, {quoted(word) if word else "NULL"}, NULL }},'
+    for name, on_root, value, text_of in MADE:
+        truths = f"{in_c(on_root)}, true, {in_c(value != 'NOTHING')}"
+        lines[
+            name
+        ] = f'\t{{ {{ "{name}", {truths}, NULL }}, {value}, NULL, {quoted(text_of) if text_of else "NULL"} }},'
     return [lines[name] for name in sorted(lines)]
 
 
 # What C calls the engine's numbers: <limits.h> has other ones named LINE_MAX and NAME_MAX.
 C_NUMBERS = {
+    "SLOTS": "SLOTS",
     "NAME_MAX": "NAME_BYTES",
     "TEXT_MAX": "PATH_BYTES",
     "LINE_MAX": "LINE_BYTES",
@@ -85,6 +94,7 @@ C_NUMBERS = {
     "PID_MAX": "PID_MAX",
     "PIDS_LIMIT_MAX": "PIDS_LIMIT_MAX",
 }
+MOUNT_NUMBERS = ("NAME_MAX", "TEXT_MAX", "LINE_MAX", "TRACE_MAX", "PID_MAX", "PIDS_LIMIT_MAX")
 
 
 def bounds(*names):
@@ -118,8 +128,10 @@ PARTS = {
     "messages of refusals": lambda: c_messages(REFUSALS, lambda row: row.c),
     "messages of faults": lambda: c_messages(FAULTS, lambda row: f"{row.c} - MK_SYNTAX"),
     "messages of paths": lambda: (f"\t[{row.c}] = {quoted(row.message)}," for row in PATHS),
-    "bounds of the library": lambda: bounds("TEXT_MAX", "PID_MAX", "PIDS_LIMIT_MAX"),
-    "bounds of the mount": lambda: bounds(*C_NUMBERS),
+    "bounds of the library": lambda: bounds("TEXT_MAX"),
+    "ranges of values": lambda: bounds("PID_MAX", "PIDS_LIMIT_MAX"),
+    "bounds in tests of the library": lambda: bounds("SLOTS", "NAME_MAX", "TEXT_MAX", "PID_MAX"),
+    "bounds of the mount": lambda: bounds(*MOUNT_NUMBERS),
     "files of the library": c_files,
     "files of the engine": mount_files,
 }

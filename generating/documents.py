@@ -141,6 +141,10 @@ def manual_bounds():
     )
 
 
+def manual_workers():
+    yield f"Answer with 1 to {NUMBERS['WORKERS_MAX']} threads. The answers are the same for each number."
+
+
 def manual_statuses():
     for row in STATUSES:
         yield ".TP"
@@ -154,6 +158,7 @@ PARTS = {
     "commands of the manual": manual_commands,
     "words of the manual": manual_words,
     "bounds of the manual": manual_bounds,
+    "workers of the manual": manual_workers,
     "table of files": document_files,
     "files that work": readme_files,
     "table of commands": document_commands,

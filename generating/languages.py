@@ -54,8 +54,8 @@ def python_all():
     yield "]"
 
 
-# Numbers of the engine that no user meets.
-WITHIN = ("LEAVES", "NODES", "INLINE_PEAKS")
+# Numbers that the package does not use.
+WITHIN = ("LEAVES", "NODES", "INLINE_PEAKS", "SESSIONS_MAX", "WORKERS_MAX")
 
 
 def python_numbers():
@@ -63,6 +63,11 @@ def python_numbers():
         if row.name not in WITHIN:
             yield f"# {row.meaning}"
             yield f"{row.name} = {row.value}"
+
+
+def numbers(*names):
+    """Numbers for a program that does not load the package."""
+    return (f"{row.name} = {row.value}  # {row.meaning}" for row in TABLES["number"] if row.name in names)
 
 
 def python_files():
@@ -84,6 +89,33 @@ def go_constants(rows, kind, said):
         yield f"\t{row.name.ljust(width)} {kind} = C.{row.c.ljust(far)} // {said(row).replace('`', '')}"
 
 
+def go_names(rows):
+    """The name of each constant as a text, for a map."""
+    width = max(len(row.name) for row in rows) + 1
+    return (f'\t{(row.name + ":").ljust(width)} {quoted(row.name)},' for row in rows)
+
+
+# What the tests in Go call the numbers.
+GO_NUMBERS = {
+    "SLOTS": "slots",
+    "DEPTH_MAX": "depthMax",
+    "NAME_MAX": "nameMax",
+    "TEXT_MAX": "pathMax",
+    "PID_MAX": "pidMax",
+}
+
+
+def go_numbers():
+    yield "const ("
+    width = max(map(len, GO_NUMBERS.values()))
+    far = max(len(row.value) for row in TABLES["number"] if row.name in GO_NUMBERS)
+    for row in TABLES["number"]:
+        if row.name in GO_NUMBERS:
+            yield f"\t{GO_NUMBERS[row.name].ljust(width)} = {row.value.ljust(far)} // {row.meaning}"
+    yield ")"
+    yield ""
+
+
 PARTS = {
     "statuses in Python": lambda: (f"{row.c.removeprefix('MK_')} = {row.number}" for row in STATUSES),
     "refusals in Python": lambda: apart(python_class(row, "Refused") for row in REFUSALS),
@@ -93,6 +125,13 @@ PARTS = {
     "names in Python": python_all,
     "files in Python": python_files,
     "numbers in Python": python_numbers,
+    "workers in Python": lambda: numbers("WORKERS_MAX"),
+    "sessions in Python": lambda: numbers("SESSIONS_MAX"),
+    "traces in Python": lambda: numbers("TRACE_MAX"),
+    "board and replay in Python": lambda: numbers("SLOTS", "LEAVES", "NODES", "WORKERS_MAX", "TRACE_MAX"),
+    "numbers in Go": go_numbers,
     "codes in Go": lambda: go_constants(REFUSALS + FAULTS, "Code", lambda row: f"{row.errno}: {row.meaning}"),
     "faults of a path in Go": lambda: go_constants(PATHS, "PathFault", lambda row: row.meaning),
+    "names of codes in Go": lambda: go_names(REFUSALS + FAULTS),
+    "names of faults of a path in Go": lambda: go_names(PATHS),
 }

@@ -1,4 +1,4 @@
-"""The page of a run: the numbers that files show."""
+"""The page of a run: the numbers that files show, and the differences between the states before and after a command."""
 
 from .table import FILES, shows_limit
 
@@ -12,6 +12,31 @@ def field_of(file):
 
 # Not those of cgroup.procs, cgroup.events and cgroup.stat, which follow from the processes and the groups.
 NUMBERED = [file for file in FILES if shows_limit(file) or (file.readable and file.name.startswith("pids."))]
+
+
+# Each kind of difference with what follows it: `field`, `group`, `pid`, `command`, or another number.
+DIFFERENCES = {
+    "MAKE": ("group",),
+    "GONE": ("group",),
+    "BORN": ("pid", "group"),
+    "DIED": ("pid",),
+    "MOVE": ("pid", "group"),
+    "KILL": ("group",),
+    "BACK": ("command",),  # the processes that it ended are back
+    "SET": ("field", "group", "value"),
+    "ADD": ("field", "group", "levels", "amount"),  # to the group and those above it
+}
+
+
+def history_differences():
+    yield "# each with the numbers after it"
+    for number, (kind, words) in enumerate(DIFFERENCES.items()):
+        yield f"{kind} = {number}  # {', '.join(words)}"
+
+
+def page_differences():
+    yield f"const {', '.join(f'{kind} = {number}' for number, kind in enumerate(DIFFERENCES))};"
+    yield f"const SIZES = {[len(words) for words in DIFFERENCES.values()]}; // how many numbers follow each kind"
 
 
 def history_fields():
@@ -51,6 +76,8 @@ def page_imports():
 
 
 PARTS = {
+    "differences in Python": history_differences,
+    "differences of the page": page_differences,
     "numbers of files in Python": history_fields,
     "numbers of files of the page": page_fields,
     "files of the page": page_files,

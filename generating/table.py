@@ -1,7 +1,7 @@
 """The table of words, and how its rows are read."""
 import os
 
-ROOT = os.path.dirname(os.path.dirname(os.path.dirname(os.path.realpath(__file__))))
+ROOT = os.path.dirname(os.path.dirname(os.path.realpath(__file__)))
 TABLE = "crates/word_tables/stdout"
 COLUMNS = {
     "file": ("name", "on_root", "readable", "written", "notified", "text"),
@@ -45,6 +45,9 @@ def read(path):
 
 TABLES = rows_of(read(TABLE))
 FILES, REFUSALS, FAULTS, PATHS, STATUSES = (TABLES[kind] for kind in ("file", "refusal", "fault", "path", "status"))
+# Limits that the table does not have: each row moves to crates/word_tables with the next proof of that crate.
+NOT_IN_THE_TABLE = (("SESSIONS_MAX", "8", "sessions of a desk"), ("WORKERS_MAX", "8", "workers of a replay"))
+TABLES["number"] += [Row(COLUMNS["number"], values) for values in NOT_IN_THE_TABLE]
 NUMBERS = {row.name: row.value for row in TABLES["number"]}
 
 

@@ -1,7 +1,7 @@
 """What tests, and programs that the engine is compared with, list of the files."""
 
 from .proofs import variant
-from .table import FILES, quoted
+from .table import FILES, TABLES, quoted
 
 # Groups with processes, limits and a group that is killed; each readable file of each of them is shown after each change.
 GROUPS = ("/k", "/k/a", "/k/b")
@@ -65,10 +65,25 @@ def plain_files():
     yield "];"
 
 
+# Where the program in plain Rust has another name or type for a number.
+RUST_NAMES = {"TEXT_MAX": "PATH_MAX", "GROUPS_LIMIT_MAX": "HIERARCHY_LIMIT_MAX"}
+RUST_TYPES = {"PID_MAX": "u32", "PIDS_LIMIT_MAX": "u32", "GROUPS_LIMIT_MAX": "u32"}
+
+
+def plain_numbers(*names):
+    for row in TABLES["number"]:
+        if row.name in names:
+            name, kind = RUST_NAMES.get(row.name, row.name), RUST_TYPES.get(row.name, "usize")
+            yield f"const {name}: {kind} = {int(row.value):_}; // {row.meaning}"
+
+
 # A file of which nothing is written by hand.
 WHOLE = {".ci/refused/traces/every_file.trace": lambda: EVERY_FILE}
 PARTS = {
     "files in the tests of the mount": mount_lists,
     "files of the faulty file system": faulty_kinds,
     "files of plain Rust": plain_files,
+    "groups of plain Rust": lambda: plain_numbers("SLOTS"),
+    "traces of plain Rust": lambda: plain_numbers("LINE_MAX", "TRACE_MAX"),
+    "words of plain Rust": lambda: plain_numbers("NAME_MAX", "DEPTH_MAX", "TEXT_MAX", *RUST_TYPES),
 }

@@ -8,7 +8,8 @@ STRUCT = re.compile(r"(?:pub(?:\(\w+\))? )?struct (\w+)")
 GHOST = re.compile(r"    ghost (\w+): \{(.*)\}[,;]$")
 FUNCTION = re.compile(r"(\s*)(pub(?:\(\w+\))? )?(?:final )?(?:const )?(?:unsafe )?(extern \"C\" )?fn (\w+)")
 OWNER = re.compile(r"(?:unsafe )?impl\b(?:<.*?>)? ?(?:([\w:<>', ]+) for )?&?(?:mut )?(\w+)|pub (trait) (\w+)")
-CLAUSE = re.compile(r"\b(requires|ensures)(?: (\w+))? \{")
+# A clause with a star holds an assertion of separation logic.
+CLAUSE = re.compile(r"\b(requires|ensures)\*?(?: (\w+))? \{")
 USE = re.compile(r"use Rattle\.(\w+)\.specs\.([\w.]+)(?:\.\{([^}]*)\}| as (\w+))")
 WORD = re.compile(r"[\w']+(?:\.\w+)?")
 
@@ -110,6 +111,10 @@ def definitions_of(texts, crate):
         yield file, " ".join(head), found, {name: "\n".join(text) for name, text in texts_of.items()}
 
 
+def open_braces(lines):
+    return sum(line.count("{") - line.count("}") for line in lines)
+
+
 def clauses_in(contract):
     """Each clause with its name and its text, up to the brace that closes it."""
     for start in CLAUSE.finditer(contract):
@@ -147,7 +152,11 @@ def functions_of(texts, crate):
                     if more.strip() in ("{", "{ }", "{}") or more.startswith("}"):
                         break
                     contract += [more] if not more.lstrip().startswith("//") else []
-                    if more.rstrip().endswith(";") or (more.rstrip().endswith(" {") and not CLAUSE.search(more)):
+                    # outside clauses a semicolon ends the contract, and so does a brace at a line's end, which begins the body
+                    inside = open_braces(contract)
+                    if more.rstrip().endswith(";") and inside == 0:
+                        break
+                    if more.rstrip().endswith(" {") and inside == 1 and not CLAUSE.search(more):
                         break
                 is_public = (start[2] or "").strip() == "pub" or is_trait
                 one = Function(

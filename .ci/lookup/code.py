@@ -6,12 +6,16 @@ import re
 from .definitions import FUNCTION
 
 CLAUSE = re.compile(r"^\s*(requires|ensures|ghost)\b|[≡≢→×λ∀∃≤ℕ↔∷⊥]")
-IMPL = re.compile(r"^impl\b(?:<.*?>)? ?(?:[\w:<>, ]+ for )?(\w+)")
+IMPL = re.compile(r"^(?:pub(?:\(\w+\))? )?trait (\w+)|^impl\b(?:<.*?>)? ?(?:[\w:<>, ]+ for )?(\w+)")
 TESTS = re.compile(
     r"(^|/)tests?/|_test\.go$|^bindings/examples/|^evidence/|/bench|^crates/\w+_tests/|^crates/test_|/data/|/std(in|out)$"
-    r"|^\.ci/(tests|refused|shell|installed|must-not-compile)/|/fuzz/|^\w+/test(-check)?$|^\.ci/(edits-passed|mutants-caught)$"
+    r"|^\.ci/(tests|refused|shell|installed|must-not-compile)/|/fuzz/|^\w+/test(-check)?$|^\.ci/state/"
 )
-ENDINGS = {".md": "documents", ".svg": "documents", ".edit": "edits", ".mutant": "mutants"}
+RECORDED = re.compile(r"^evidence/linux[^/]*/")
+ENDINGS = {
+    **{".md": "documents", ".svg": "documents", ".edit": "edits"},
+    **{".mutants": "mutants", ".recorded": "recordings"},
+}
 
 
 def part_of(path, line):
@@ -21,6 +25,8 @@ def part_of(path, line):
             return part
     if path.startswith(("man/", "docs/")):
         return "documents"
+    if RECORDED.match(path):
+        return "recordings"
     if TESTS.search(path) and not path.startswith("crates/word_tables/"):
         return "tests"
     if not path.startswith("crates/"):
@@ -37,11 +43,12 @@ def part_of(path, line):
 
 @functools.lru_cache(maxsize=None)
 def functions_of(text):
-    """For each line of a .rt file, counted from 1, the function that it is in, with the type of its impl."""
+    """For each line of a .rt file, counted from 1, the function that it is in, with the type of its impl, or its trait."""
     found, owner, inside = [None], None, None
     for line in text.split("\n"):
-        if IMPL.match(line):
-            owner, inside = IMPL.match(line)[1], None
+        of = IMPL.match(line)
+        if of:
+            owner, inside = of[1] or of[2], None
         elif line == "}":
             owner = inside = None
         name = FUNCTION.match(line)

@@ -36,8 +36,6 @@ PAGE = (
     r"^  (async |static )*(NAME)\(.*\) \{",
 )
 LANGUAGES = {".rt": RUST, ".rs": RUST, ".py": PYTHON, ".sh": SHELL, ".c": C, ".h": C, ".go": GO, ".mjs": PAGE}
-# A number is defined where a constant gets it.
-NUMBER_IN = {".rt": r"\bconst \w+: .* = (NAME)\b", ".rs": r"\bconst \w+: .* = (NAME)\b"}
 
 
 def ending(path):
@@ -48,15 +46,15 @@ def ending(path):
 
 def definition_of(path, names):
     """What a line of that file matches if it defines one of the names; None if the file can't define one."""
-    either, is_number = "|".join(map(re.escape, names)), names[0][0].isdigit()
+    either = "|".join(map(re.escape, names))
+    if path.endswith(".mutants"):
+        return re.compile(rf"^== ({either})\s*$")
     if path.endswith(".antt") and "/specs/" in path:
         return re.compile(rf"^\s*((abbrev|unfoldable|pub|record|data|rel) )+({either})\b|^  (pub )?({either}) : ")
     of = ending(path)
     patterns = [*LANGUAGES.get(of, ())] if of else [*PYTHON, *SHELL]
     if not patterns:
         return None
-    if is_number and of != ".sh":
-        patterns.append(NUMBER_IN.get(of, r"\b[A-Z_]+\b.* = (NAME)\b"))
     return re.compile("|".join(patterns).replace("(NAME)", f"({either})"))
 
 

@@ -97,12 +97,15 @@ ESCAPE = r"\\[0abefnrtv]"
 
 
 def boundaries(name):
-    """A name of a file isn't part of a longer one, a number not part of another, an option not of another."""
+    """A name of a file isn't part of a longer one, a number not part of another, an option or a name with hyphens not of another."""
     if name[0].isdigit():
         return rf"(?:(?<![\w.,])|(?<={ESCAPE}))", r"(?![\d_]|[.,]\d)"
     if name[0] == "-":
         return r"(?<![\w-])", r"(?![\w-])"
-    before, behind = (r"(?<![\w.])", r"(?!\w|\.\w)") if "." in name else (r"(?<!\w)", r"(?!\w)")
+    more = "-" if "-" in name else ""
+    before, behind = rf"(?<![\w{more}])", rf"(?![\w{more}])"
+    if "." in name:
+        before, behind = rf"(?<![\w.{more}])", rf"(?![\w{more}]|\.\w)"
     return f"(?:{before}|(?<={ESCAPE}))", behind
 
 
@@ -119,7 +122,7 @@ def compiled(names):
 
 def longer_words(names, line):
     """The words of a line that have one of the names in them, and are not one."""
-    more = ("." if any("." in name for name in names) else "") + ("-" if any(name[0] == "-" for name in names) else "")
+    more = ("." if any("." in name for name in names) else "") + ("-" if any("-" in name for name in names) else "")
     found = re.findall(rf"(?:{ESCAPE})?([\w{more}]+)", line)
     words = {word.strip(".") for word in found}
     return {word for word in words if any(is_in(name, word) for name in names) and not pattern_of(names).search(word)}
@@ -135,10 +138,10 @@ def files_named(name, texts):
     found = {}
     for path in texts:
         *folders, last = path.split("/")
-        if name in (last, last.rsplit(".", 1)[0]):
+        if name in (last, last.rsplit(".", 1)[0], path) or ("/" in name and path.endswith(f"/{name}")):
             found.setdefault(short(path), 0)
         for depth, folder in enumerate(folders):
-            if folder == name:
-                at = "/".join(folders[: depth + 1])
+            at = "/".join(folders[: depth + 1])
+            if folder == name or at == name.rstrip("/"):
                 found[at] = found.get(at, 0) + 1
     return [f"{short(at)}/ {count} file{'s' * (count > 1)}" if count else at for at, count in sorted(found.items())]

@@ -57,6 +57,13 @@ class Comments(unittest.TestCase):
         self.assertEqual(self.faults(path, TEXTS[path].replace("- `Sum`", "- `Adds`")), one)
         self.assertEqual(self.faults(path, TEXTS[path].replace("(`Sum`)", "(`Adds`)")), one)
 
+    def test_each_file_that_a_head_lists_is_there(self):
+        path = "crates/low/src/lib.rt"
+        head = "//! Sums, by `specs/`.\n//!\n//! - `Adds`, `Sum`, `Few` and `Total`: sums.\n"
+        missing = [f"{path}: there is no specs/{name}.antt" for name in ("Adds", "Few", "Total")]
+        found = self.faults(path, head + "//! - `Other` of `Another`: no list.\n")
+        self.assertEqual([it for it in found if "there is no" in it], missing)
+
     def test_an_edit_without_a_name(self):
         path = "crates/low/must-fail-more/one.edit"
         self.assertEqual(self.faults(path, "file: src/sum.rt\n"), [f"{path}: no line `# breaks: NAME`"])

@@ -198,6 +198,20 @@ class Edits(MadeUp):
         for words in (["--check"], ["--lay"], ["--full"], ["sessions"]):
             self.assertEqual(self.run_with(*words, status=1), [why])
 
+    def test_an_edit_may_change_what_it_wrote(self):
+        """One blank after `new:` is not of the text, as `rt` reads it."""
+        for new, old in (
+            ("new: wrong", "{ wrong }"),
+            ("new:wrong", "{ wrong }"),
+            ("new:  wrong", "{  wrong }"),
+            ("new:", "{  }"),
+        ):
+            self.write(
+                "crates/low/must-fail-more/e.edit",
+                f"file: src/lib.rt\nold: right\n{new}\nold: {old}\nnew: more wrong\n",
+            )
+            self.assertEqual(self.run_with("--check"), [], new)
+
     def test_an_edit_that_the_kit_calls_bad_is_not_noted(self):
         self.run_with("--lay")
         self.write("log", "rt: must-fail low/second-set-a.edit: BAD EDIT: the prover cannot read the edited text\n")
@@ -230,6 +244,16 @@ class Edits(MadeUp):
         self.run_with("--lay")
         self.assertTrue(os.path.exists(f"{self.top}/crates/low/must-fail/second-set-a.edit"))
         self.run_with("--take-back")
+        self.assertEqual(sorted(os.walk(f"{self.top}/crates")), before)
+
+    def test_nothing_is_left_if_the_kit_is_interrupted(self):
+        def interrupted(command):
+            self.assertTrue(os.path.exists(f"{self.top}/crates/low/must-fail/second-set-a.edit"))
+            raise KeyboardInterrupt
+
+        before = sorted(os.walk(f"{self.top}/crates"))
+        self.patch("lines_of", interrupted)
+        self.assertRaises(KeyboardInterrupt, edits.main, ["low"])
         self.assertEqual(sorted(os.walk(f"{self.top}/crates")), before)
 
     def test_wrong_words(self):

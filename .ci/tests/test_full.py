@@ -11,7 +11,7 @@ full = load(".ci/full")
 
 class Full(MadeUp):
     program = full
-    places = {"PASSED": ".ci/full-passed", "STATE": "out/full"}
+    places = {"PASSED": ".ci/state/full-passed", "STATE": "out/full"}
 
     def setUp(self):
         super().setUp()
@@ -24,7 +24,9 @@ class Full(MadeUp):
             ".gitignore": "out/\n",
             "mount/a.c": "a\n",
             "bindings/c/b.c": "b\n",
-            ".ci/full-passed": "",
+            "bindings/go/c.go": "c\n",
+            "evidence/model.py": "d\n",
+            ".ci/state/full-passed": "",
         }.items():
             self.write(name, text)
         self.git("init", "--quiet")
@@ -88,6 +90,19 @@ class Full(MadeUp):
             noted = full.passed()
             self.assertEqual((noted["fuzz"].split()[3:], noted["edits"].split()[3:]), ([minutes, "minutes"], []))
 
+    def test_each_step_takes_five_minutes(self):
+        told = []
+        self.patch("run", lambda command, **more: told.append((command, more)) or True)
+        self.said("fuzz", "soak", "models")
+        corpus = os.path.join(full.STATE, "corpus")
+        each = [
+            (["mount/fuzz/run"], {"FUZZ_SECONDS": "300", "FUZZ_CORPUS": corpus}),
+            (["mount/test", "soak"], {"SOAK": "300"}),
+            (["bindings/models", "300", "random"], {}),
+        ]
+        self.assertEqual(told, [step for step in each for _ in range(3)])
+        self.assertTrue(os.path.isdir(corpus))
+
     def test_a_part_begins_anew_on_other_code_of_the_mount(self):
         self.fails_at = 3
         self.said("soak", status=1)
@@ -96,6 +111,23 @@ class Full(MadeUp):
         self.commit()
         self.said("soak")
         self.assertEqual(len(self.calls), 3 + 3)
+
+    def test_models_begin_anew_on_another_model_and_other_bindings(self):
+        for path in "evidence/model.py", "bindings/go/c.go":
+            self.calls.clear()
+            self.fails_at = 2
+            self.said("models", status=1)
+            self.write("mount/a.c", f"changed before {path}\n")
+            self.commit()
+            self.said("models")
+            self.assertEqual(self.calls, ["bindings/models 300 random"] * (2 + 2))
+            self.calls.clear()
+            self.said("models", status=1)
+            self.write(path, "changed\n")
+            self.commit()
+            self.said("models")
+            self.assertEqual(len(self.calls), 2 + 3)
+            self.assertEqual(full.passed()["models"].split()[3:], ["15", "minutes"])
 
     def test_wrong_words(self):
         self.said(status=2)

@@ -6,6 +6,7 @@ import re
 import shlex
 import shutil
 import subprocess
+import tempfile
 import unittest
 
 from scripts import TOP
@@ -81,7 +82,13 @@ class Reference(unittest.TestCase):
     def test_the_pages_have_no_findings(self):
         if not shutil.which("mandoc"):
             self.skipTest("mandoc is not here; .ci/installed/run asks man")
-        pages = glob.glob(os.path.join(TOP, "man", "*.[1-9]"))
+        folder = tempfile.mkdtemp()
+        self.addCleanup(shutil.rmtree, folder)
+        pages = []
+        for page in glob.glob(os.path.join(TOP, "man", "*.[1-9]")):
+            pages.append(os.path.join(folder, os.path.basename(page)))
+            with open(pages[-1], "w", encoding="utf-8") as it:
+                it.write(read(page).replace("@DATE@", "2026-01-02", 1))  # as .ci/tree does
         ran = subprocess.run(
             ["mandoc", "-T", "lint", "-W", "warning", *pages],
             stdout=subprocess.PIPE,

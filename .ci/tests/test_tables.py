@@ -1,9 +1,11 @@
-"""Tests of docs/draw-tables: what it finds in definitions and contracts, on a made-up repository."""
+"""Tests of docs/draw-tables: what it finds in definitions and contracts, and which pages it writes, on a made-up repository."""
+import os
 import unittest
 
-from scripts import load
+from scripts import MadeUp, load
 
 tables = load("docs/draw-tables")
+from lookup.clauses import clauses_in  # noqa: E402, after the script has set the path
 
 TEXTS = {
     "crates/flat_model/specs/Lib.antt": "pub mod Step\npub mod Count\n",
@@ -80,9 +82,10 @@ class Tables(unittest.TestCase):
         self.crates = tables.Crates(TEXTS, list(USES))
 
     def test_definitions_with_who_cites_them(self):
-        rows = [line for line in tables.table_of_definitions(self.crates) if line.startswith("| ")]
+        lines = list(tables.definitions_of(self.crates, "flat_model"))
+        self.assertEqual(lines[:2], ["", "## Definitions"])
         self.assertEqual(
-            rows[1:],
+            [line for line in lines if line.startswith("| ")][1:],
             [
                 "| **`Step`** |  |  | |",
                 "| `step` | one step | `Desk::step` (`stepped`) |  |",
@@ -95,12 +98,10 @@ class Tables(unittest.TestCase):
 
     def test_calls_with_their_clauses(self):
         self.assertEqual(
-            list(tables.table_of_calls(self.crates, USES)),
+            list(tables.calls_of(self.crates, "low")),
             [
                 "",
-                "### `low`",
-                "",
-                "Counts groups. It trusts `memchr`.",
+                "## Calls",
                 "",
                 "| Call | What it does | Requires | Proved |",
                 "|---|---|---|---|",
@@ -108,16 +109,79 @@ class Tables(unittest.TestCase):
             ],
         )
 
-    def test_laws_and_other_crates(self):
-        self.assertIn("| `counts::counts_are_one` | A count is one. |", tables.table_of_laws(self.crates, USES))
-        others = [line for line in tables.table_of_others(self.crates, USES) if line.startswith("| `")]
-        self.assertEqual(others, ["| `flat_model` |  |"])
+    def test_each_form_of_a_clause(self):
+        contract = """pub fn run(&mut self, rt: &R)
+        requires { a }
+        requires room { b < 1 }
+        requires* { emp }
+        requires* held { sem (c self) }
+        ensures { d }
+        ensures told { { n : N } → n ≡ e }
+        ensures* { f
+            ∗ g }
+        ensures* after { sem (h {A = B} self.new) }
+"""
+        self.assertEqual(
+            list(clauses_in(contract)),
+            [
+                ("requires", None, "a"),
+                ("requires", "room", "b < 1"),
+                ("requires", None, "emp"),
+                ("requires", "held", "sem (c self)"),
+                ("ensures", None, "d"),
+                ("ensures", "told", "{ n : N } → n ≡ e"),
+                ("ensures", None, "f ∗ g"),
+                ("ensures", "after", "sem (h {A = B} self.new)"),
+            ],
+        )
+
+    def test_a_clause_after_a_record_on_several_lines(self):
+        text = TEXTS["crates/low_laws/src/counts.rt"].replace(
+            "    ensures one {", "    ensures first { Some (record {\n          a = 0;\n        }) }\n    ensures one {"
+        )
+        crates = tables.Crates(TEXTS | {"crates/low_laws/src/counts.rt": text}, list(USES))
+        (law, _), *others = crates.functions["low_laws"]
+        self.assertEqual(
+            (str(law), [name for _, name, _ in law.clauses], others), ("counts::counts_are_one", ["first", "one"], [])
+        )
+
+    def test_a_page_has_what_the_crate_has(self):
+        self.assertEqual(
+            tables.page_of(self.crates, USES, "low_laws"),
+            ["# `low_laws`", "", "## Laws", "", "| Law | What it says |", "|---|---|"]
+            + ["| `counts::counts_are_one` | A count is one. |"],
+        )
+        low = tables.page_of(self.crates, USES, "low")
+        self.assertEqual(low[:5], ["# `low`", "", "Counts groups. It trusts `memchr`.", "", "## Calls"])
+        self.assertEqual(
+            [line for line in tables.page_of(self.crates, USES, "flat_model") if line[:2] == "##"], ["## Definitions"]
+        )
+
+    def test_a_law_beside_calls_is_only_a_law(self):
+        law = TEXTS["crates/low_laws/src/counts.rt"]
+        crates = tables.Crates(TEXTS | {"crates/low/src/laws.rt": law}, list(USES))
+        page = tables.page_of(crates, USES, "low")
+        self.assertEqual([line for line in page if "counts_are_one" in line], [page[-1]])
+        self.assertEqual(page[-5:-4], ["## Laws"])
+
+    def test_the_list_leads_to_the_pages(self):
+        crates = tables.Crates(TEXTS, [*USES, "empty"])
+        rows = [line for line in tables.index(crates, {**USES, "empty": []}) if line.startswith("| ")]
+        self.assertEqual(
+            rows[1:],
+            [
+                "| [`flat_model`](flat_model.md) |  |",
+                "| [`low`](low.md) | Counts groups. |",
+                "| [`low_laws`](low_laws.md) |  |",
+                "| `empty` |  |",
+            ],
+        )
 
     def test_a_comment_is_for_the_fields_up_to_the_next_one(self):
         one = self.crates.by_name["flat_model", "Count", "Keeps"]
         self.crates.by_name["undo_journal", "Headline", "KeepsHistory"] = one
         self.assertEqual(
-            list(tables.table_of_headline(self.crates, USES))[3:],
+            list(tables.table_of_headline(self.crates))[3:],
             ["| `counts`, `exact` | the count is right |", "| `only` | nothing else |"],
         )
 
@@ -137,6 +201,55 @@ class Tables(unittest.TestCase):
         self.assertEqual(tables.cut("a | b\n\nnext"), "a \\| b")
         self.assertEqual(tables.listed(["one", "two", "three"], 8), "one, two and 1 more")
         self.assertEqual(tables.listed([], 8), "")
+
+
+class Pages(MadeUp):
+    program = tables
+    PROVED = (
+        "# Proved\n\n<!-- generated by docs/draw-tables: headline -->\n%s<!-- end of what is generated -->\nby hand\n"
+    )
+
+    def setUp(self):
+        super().setUp()
+        for path, text in TEXTS.items():
+            self.write(path, text)
+        headline = "pub record KeepsHistory (s : State) : Type 0 where\n  -- it is right\n  pub counts : s ≡ s\n"
+        self.write("crates/undo_journal/specs/Headline.antt", f"-- The headline.\n{headline}")
+        self.write(
+            "crates.txt", "flat_model:\nlow: flat_model memchr\nlow_laws: flat_model\nundo_journal: flat_model\n"
+        )
+        self.write("docs/PROVED.md", self.PROVED % "")
+        os.makedirs(f"{self.top}/docs/reference")
+
+    def test_pages_are_written_and_then_current(self):
+        names = sorted(["PROVED.md", *(f"reference/{it}.md" for it in ("README", *USES, "undo_journal"))])
+        lines = self.run_with("--check", status=1)
+        self.assertEqual(sorted(lines), [f"docs/{name} is not what docs/draw-tables writes" for name in names])
+        self.assertFalse(os.listdir(f"{self.top}/docs/reference"))
+        self.assertEqual(sorted(self.run_with()), [f"wrote docs/{name}" for name in names])
+        self.assertEqual(self.run_with("--check"), [])
+        text = self.read("docs/reference/low.md")
+        self.assertTrue(text.startswith("<!-- generated by docs/draw-tables: low -->\n\n# `low`\n"), text)
+        self.assertTrue(text.endswith("\n\n<!-- end of what is generated -->\n"), text)
+        proved = self.read("docs/PROVED.md")
+        self.assertIn("\n| `counts` | it is right |\n", proved)
+        self.assertTrue(proved.endswith("-->\nby hand\n"))
+
+    def test_a_page_of_no_crate_is_found_and_removed(self):
+        self.run_with()
+        self.write("docs/reference/gone.md", "# gone\n")
+        self.assertEqual(
+            self.run_with("--check", status=1), ["docs/reference/gone.md is not what docs/draw-tables writes"]
+        )
+        self.assertEqual(self.run_with(), ["removed docs/reference/gone.md"])
+        self.assertFalse(os.path.exists(f"{self.top}/docs/reference/gone.md"))
+
+    def test_a_page_that_was_edited_is_found(self):
+        self.run_with()
+        self.write("docs/reference/low.md", self.read("docs/reference/low.md").replace("fast", "slow"))
+        self.assertEqual(
+            self.run_with("--check", status=1), ["docs/reference/low.md is not what docs/draw-tables writes"]
+        )
 
 
 if __name__ == "__main__":

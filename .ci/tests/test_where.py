@@ -5,6 +5,8 @@ import importlib.util
 import io
 import os
 import re
+import signal
+import subprocess
 import sys
 import unittest
 from unittest import mock
@@ -14,6 +16,7 @@ loader = importlib.machinery.SourceFileLoader("where", os.path.join(TOP, "where"
 where = importlib.util.module_from_spec(importlib.util.spec_from_loader("where", loader))
 sys.dont_write_bytecode = True
 loader.exec_module(where)
+from lookup import mutants, receivers, screen, words  # noqa: E402
 
 NAMES = (
     "pids.peak",
@@ -39,11 +42,14 @@ def listed_in(screen):
     """The files and the folders that a screen lists, with the folder crates/ left out."""
     files, folders = set(), set()
     for entry in (entry for line in screen for entry in line[where.LABEL :].split("; ")):
-        counted = re.fullmatch(r"(\S+)/ \d+ files", entry)
+        counted = re.fullmatch(r"(\S+)/ \d+ (?:files|mutants)", entry)
+        of_mutant = re.fullmatch(r"(\w+)/.* \((\S+):[\d,]+\)", entry)
         if counted:
             folders.add(os.path.normpath(counted[1]))
         elif re.match(r"\d+ files in ", entry):
             folders.update(entry.split(" files in ")[1].split(", "))
+        elif of_mutant:
+            files.add(f"{of_mutant[1]}/mutants/{of_mutant[2]}")
         elif "/ " in entry:
             folder, names = entry.split("/ ", 1)
             files.update(os.path.normpath(f"{folder}/{re.split('[:(]', name)[0]}") for name in names.split())
@@ -83,8 +89,10 @@ class OfThisRepository(unittest.TestCase):
                     continue
                 short = path.removeprefix("crates/")
                 edit = f"{short.split('/')[0]}/{os.path.basename(path).removesuffix('.edit')} ("
+                is_mutant = any(f"{path.split('/')[0]}/{it.name}" in files for it in mutants.blocks(text))
                 with self.subTest(name, path=path):
-                    self.assertTrue(short in files or above(path) & folders or edit in whole, whole)
+                    is_listed = short in files or above(path) & folders or edit in whole or is_mutant
+                    self.assertTrue(is_listed, whole)
 
     def test_every_line_that_a_search_by_hand_finds_has_the_name_or_a_longer_word(self):
         for name in NAMES[:3] + NAMES[4:7] + NAMES[8:]:
@@ -114,11 +122,137 @@ class OfThisRepository(unittest.TestCase):
             self.assertTrue(where.pattern_of([name]).search(line), line)
             self.assertEqual(where.longer_words([name], line), set())
 
-    def test_all_fits_on_a_screen(self):
+    def test_all_fits_on_a_screen_but_short_lists(self):
         for name, search in self.searches.items():
+            lines = search.screen()
             with self.subTest(name):
-                self.assertLessEqual(len(search.screen()), 50)
-                self.assertLessEqual(max(map(len, search.screen())), 150)
+                self.assertLessEqual(max(map(len, lines)), 150)
+                if len(lines) > 50:
+                    # what isn't whole has few lines
+                    long = [
+                        part
+                        for part, count in ((part, self.lines_of(part, lines)) for part in where.PARTS)
+                        if count and where.LEAST <= len(search.lines_of(part, count - 1)) < count
+                    ]
+                    self.assertEqual(long, [], "\n".join(lines))
+                    self.assertGreater(sum(self.is_whole(search, part, lines) for part in where.PARTS), 15 + 1)
+
+    def is_whole(self, search, part, lines):
+        """How many lines a part has that can't have fewer."""
+        count = self.lines_of(part, lines)
+        return count if count and len(search.lines_of(part, 1)) == count else 0
+
+    @staticmethod
+    def lines_of(part, lines):
+        """How many lines of a screen belong to the part."""
+        labels = [line[: where.LABEL].strip() for line in lines]
+        if part not in labels:
+            return 0
+        first = labels.index(part)
+        return next((at for at in range(1, len(lines) - first) if labels[first + at]), len(lines) - first)
+
+    def test_no_list_of_fewer_than_forty_files_is_folded(self):
+        folded = 0
+        for name, search in self.searches.items():
+            lines = search.screen()
+            for part in where.PARTS:
+                first = [line[: where.LABEL].strip() for line in lines].index(part) if search.hits[part] else 0
+                own = "\n".join(line[where.LABEL :] for line in lines[first : first + self.lines_of(part, lines)])
+                is_folded = bool(re.search(r"(?:/ |^)\d+ (?:files|mutants)(?:;|$| in )", own, re.M)) and part not in (
+                    "files",
+                    "longer",
+                )
+                with self.subTest(name, part=part):
+                    folded += is_folded
+                    count = len([*search.mutants()]) if part == "mutants" else len(search.hits[part])
+                    self.assertFalse(is_folded and 0 < count < 40, own)
+        self.assertGreater(folded, 0)
+
+    def test_all_lists_every_line(self):
+        search = self.searches["1024"]
+        lines = search.screen(is_whole=True)
+        self.assertFalse([line for line in lines if re.search(r"/ \d+ (files|mutants)(;|$)|\+\d+$", line)])
+        for part in set(where.PARTS) - {"mutants"}:
+            for path, numbers in search.hits[part].items():
+                place = screen.short(path) + ":" + ",".join(map(str, sorted(numbers)))
+                self.assertTrue(any(line.endswith(place) for line in lines), place)
+        for path, numbers in search.hits["mutants"].items():
+            places = re.findall(rf"\({re.escape(path.partition('/mutants/')[2])}:([\d,]+)\)$", "\n".join(lines), re.M)
+            self.assertLessEqual(numbers, {int(number) for place in places for number in place.split(",")}, path)
+
+    def test_a_number_has_the_constants_of_each_language(self):
+        defined = {f"{path} {said}" for path, _, said in self.searches["1024"].defined}
+        for said in (
+            "crates/pids_charge/src/plain.rt SLOTS = 1024",
+            "bindings/python/makhloeum/_table.py SLOTS = 1024",
+            "evidence/bench/plain/engine.rs SLOTS = 1_024",
+            "evidence/model.py GROUPS_MAX = 1_024",
+            "bindings/c/tests/check.h SLOTS = 1024",
+        ):
+            self.assertIn(said, defined)
+
+    def test_calls_are_those_of_the_type(self):
+        search = where.Search("Engine::copy", self.texts)
+        calls = {path for part in ("code", "tests") for path in search.hits[part]}
+        self.assertLessEqual({"crates/line_engine/src/engine.rt", "crates/undo_journal/src/rehearse.rt"}, calls)
+        self.assertFalse(calls & {"crates/group_tree/src/copy.rt", "crates/undo_journal/src/command.rt"})
+
+    def test_what_the_text_tells_of_a_type_is_seldom_nothing(self):
+        rattle = receivers.Rattle(self.texts)
+        answers = [
+            answer
+            for path in rattle.texts
+            for name, owner in (("copy", "GroupPath"), ("fork", "Charges"), ("depth", "Engine"), ("lock", "Hall"))
+            for answer in rattle.calls(path, name, owner).values()
+        ]
+        self.assertGreater(answers.count(True), 40)
+        self.assertLess(answers.count(None), answers.count(True) / 4)
+
+    def test_pictures_are_not_read(self):
+        pictures = [path for path in self.texts if path.endswith((".png", ".svg"))]
+        self.assertTrue(pictures)
+        self.assertEqual([path for path in pictures if self.texts[path]], [])
+        self.assertTrue(where.files_named(os.path.basename(pictures[0]), self.texts))
+
+    def test_a_drawing_that_no_program_draws_is_read(self):
+        names = {"docs/a.svg", "docs/b.svg", "docs/draw-a", "docs/c.png"}
+        self.assertEqual(
+            [name for name in sorted(names) if where.is_picture(name, names)], ["docs/a.svg", "docs/c.png"]
+        )
+
+    def test_a_word_of_newcomers(self):
+        for name in ("user notification", "stays proved", "Fedora", "race", "kill -9", "fork bomb", "seccomp"):
+            said = where.Search(name, self.texts).screen()
+            self.assertTrue([line for line in said if line.startswith("  here this is called: ")], name)
+        for name in ("deb", "rpm", "install", "FEDORA"):
+            self.assertTrue(words.called_here(name), name)
+        self.assertEqual(words.called_here("fedoras"), [])
+
+    def test_a_message_of_a_check_that_fails_leads_to_what_to_do(self):
+        for message in (
+            *(
+                "NOT REFUSED",
+                "BAD EDIT",
+                "NOT TRIED",
+                "NOT CAUGHT",
+                "BAD MUTANT",
+                "was made without proofs",
+                "skipped, ",
+            ),
+            *("is not what ./generate writes", "is not what docs/draw-tables writes", "no law names it"),
+            *("what it names is not in its form", "documents: 19 read, 2 faults"),
+        ):
+            screen = where.Search(message, self.texts).screen()
+            found = [line for line in screen if line.startswith("documents ") and "FAILURES.md" in line]
+            self.assertTrue(found, f"{message}: {screen}")
+
+    def test_it_ends_quietly_when_nobody_reads(self):
+        ran = subprocess.Popen([os.path.join(TOP, "where"), "mkdir"], stdout=subprocess.PIPE, stderr=subprocess.PIPE)
+        ran.stdout.close()
+        said = ran.stderr.read()
+        ran.stderr.close()
+        self.assertIn(ran.wait(), (0, -signal.SIGPIPE))
+        self.assertEqual(said, b"")
 
     def test_a_file_and_its_variant(self):
         screen = "\n".join(self.searches["pids.peak"].screen())
@@ -155,7 +289,8 @@ class OfAMadeUpRepository(unittest.TestCase):
         "        ensures { Adds }\n    {\n        wrong\n    }\n\n    fn other(self) {\n        self.add()\n    }\n}\n",
         "crates/low/must-fail-more/one.edit": "file: src/sum.rt\nold: wrong\nnew: right\n",
         "crates/low/must-fail-more/two.edit": "# breaks: Adds.IsFew\nfile: src/sum.rt\nold: self.add()\nnew: self\n",
-        "crates/low_tests/data/sums.cases": "add 1 => 1\nadded\n",
+        "crates/low_tests/data/sums.cases": "# shows: Sum::add\nadd 1 => 1\nadded\n",
+        "crates/low_tests/data/others.cases": "# shows: Other::add\nadd 1 => 1\n",
         "crates/low/proofs/sum/Sum/add/Answers.antt": "proof\n",
         "python/tree.py": "class Tree:\n    def peak(self):\nMOST = 9\nclass Other:\n    def peak(self):\n",
         "python/tests/test_tree.py": "assert h.peak() == 1 and peak == 2\n",
@@ -165,6 +300,9 @@ class OfAMadeUpRepository(unittest.TestCase):
         "page.mjs": "export const HEIGHT = 1, WIDTH = 2;\nexport function rows(run) {\n",
         "run": "#!/bin/bash\nstep() {\n  tool --keep=a --keep-all\n",
         "README.md": "`Tree.peak` is a number.\n",
+        "mount/mutants/run/births.c.mutants": "file: mount/src/run/births.c\n\n== a_birth_is_late\nwhy: the child waits\n"
+        "old: now();\nnew: later();\ntest: births\n\n== a_birth_is_late_again\nold: again();\nnew: later();\ntest: births\n",
+        "evidence/linux-6.1/rows.recorded": "births\n" * 5000,
         "man/tool.1": where.plain_manual(".B \\-\\-keep\\fR\n"),
     }
 
@@ -177,7 +315,7 @@ class OfAMadeUpRepository(unittest.TestCase):
             [
                 "Adds",
                 "defined     low/specs/Sum.antt:2 abbrev pub Adds : Type 0",
-                "clauses     low/src/sum.rt (add)",
+                "clauses     low/src/sum.rt (add):1",
                 "specs       low/specs/Sum.antt:2,3",
                 "edits       low/one (Sum::add); low/two (Adds.IsFew)",
             ],
@@ -194,7 +332,7 @@ class OfAMadeUpRepository(unittest.TestCase):
                 "code        low/src/sum.rt:11",
                 "proofs      low/proofs/sum/Sum/add/Answers.antt:1",
                 "edits       low/one (Sum::add)",
-                "tests       low_tests/data/sums.cases:1",
+                "tests       low_tests/data/sums.cases:1,2",
             ],
         )
 
@@ -206,7 +344,7 @@ class OfAMadeUpRepository(unittest.TestCase):
                 "defined     go/tree.go:4 func (t *Tree) peak() int { return 0 }",
                 "            python/tree.py:2 def peak(self):",
                 "code        go/tree.go:4; python/tree.py:2",
-                "tests       python/tests/test_tree.py:1",
+                "perhaps     python/tests/test_tree.py:1",
                 "documents   README.md:1",
             ],
         )
@@ -232,23 +370,124 @@ class OfAMadeUpRepository(unittest.TestCase):
     def test_an_option(self):
         self.assertEqual(
             self.screen("--keep"),
-            ["--keep", "code        run:3", "documents   man/tool.1:1", "longer      --keep-all 1 files"],
+            ["--keep", "code        run:3", "documents   man/tool.1:1", "longer      --keep-all (1)"],
         )
 
     def test_a_number_in_a_word_is_no_number(self):
-        self.assertEqual(
-            self.screen("32"), ["32", "code        go/tree.go:5", "longer      uint32 1 files; uint32_t 1 files"]
-        )
+        self.assertEqual(self.screen("32"), ["32", "code        go/tree.go:5", "longer      uint32 (1); uint32_t (1)"])
 
     def test_the_name_of_a_file_or_a_folder(self):
         self.assertEqual(self.screen("two"), ["two", "files       low/must-fail-more/two.edit"])
-        self.assertEqual(self.screen("low_tests"), ["low_tests", "files       low_tests/ 1 file"])
+        self.assertEqual(self.screen("low_tests"), ["low_tests", "files       low_tests/ 2 files"])
+
+    def test_a_mutant_by_its_name_and_by_its_text(self):
+        at = "mount/a_birth_is_late (run/births.c.mutants"
+        found = [
+            "a_birth_is_late",
+            "defined     mount/mutants/run/births.c.mutants:3 == a_birth_is_late",
+            f"mutants     {at}:3)",
+            "longer      a_birth_is_late_again (1)",
+        ]
+        self.assertEqual(self.screen("a_birth_is_late"), found)
+        self.assertEqual(self.screen("mount/a_birth_is_late"), ["mount/a_birth_is_late", *found[1:]])
+        again = "mount/a_birth_is_late_again (run/births.c.mutants:11)"
+        self.assertEqual(self.screen("later"), ["later", f"mutants     {at}:6); {again}"])
+        of_all = "mount/ all 2 of run/births.c.mutants (run/births.c.mutants:1)"
+        self.assertEqual(self.screen("mount/src/run/births.c")[1:], [f"mutants     {of_all}"])
+
+    def test_recordings_fill_no_screen(self):
+        self.assertIn("recordings  evidence/linux-6.1/rows.recorded(5000)", self.screen("births"))
+
+    def test_several_words_are_one_name(self):
+        said = io.StringIO()
+        with mock.patch.object(where, "repository", lambda: self.TEXTS), contextlib.redirect_stdout(said):
+            self.assertEqual(where.main(["is", "a", "number"]), 0)
+            self.assertEqual(where.main(["--all"]), 1)
+        first = ["is a number", "documents   README.md:1", "--all: no file of the repository has it"]
+        self.assertEqual([line for line in said.getvalue().split("\n") if line in first], first)
 
     def test_a_name_that_is_nowhere(self):
         said = io.StringIO()
         with mock.patch.object(where, "repository", lambda: self.TEXTS), contextlib.redirect_stdout(said):
             self.assertEqual(where.main(["absent"]), 1)
         self.assertEqual(said.getvalue(), "absent: no file of the repository has it\n")
+
+
+class OfFewAndOfMany(unittest.TestCase):
+    @staticmethod
+    def search_of(files, lines):
+        texts = {f"part{at % 9}/tests/t{at}.py": "seldom\n" * lines for at in range(files)}
+        return where.Search("seldom", texts)
+
+    def test_few_lines_are_whole(self):
+        said = "\n".join(self.search_of(3, 13).screen())
+        self.assertIn("t0.py:1,2,3,4,5,6,7,8,9,10,11,12,13", said)
+
+    def test_few_lines_of_one_file_are_whole(self):
+        for files in (1, 2):
+            path = "part/tests/a_very_long_name_of_a_test.py"
+            texts = {path: "x\n" * 1000 + "seldom\n" * 37, "part/tests/b.py": "seldom\n" * (files - 1)}
+            said = where.Search("seldom", texts).screen()
+            numbers = [int(number) for line in said for number in re.findall(r"[:,](\d+)", line)]
+            self.assertEqual([number for number in numbers if number > 1000], [*range(1001, 1038)])
+            self.assertLessEqual(max(map(len, said)), 150)
+
+    def test_few_files_are_named(self):
+        for files in (39, 40):
+            said = self.search_of(files, 60).screen()
+            named = {name for line in said for name in re.findall(r"\bt\d+\.py", line)}
+            self.assertEqual(len(named), files)
+
+    def test_many_files_are_counted(self):
+        said = "\n".join(self.search_of(400, 2).screen())
+        self.assertIn("part0/tests/ 45 files", said)
+        self.assertLess(said.count("\n"), 10)
+
+    def test_few_mutants_are_named_and_many_are_counted(self):
+        block = "old: seldom();\nnew: often();\ntest: t\n"
+        for count in (39, 400):
+            text = "file: mount/src/a.c\n" + "".join(
+                f"\n== a_mutant_of_that_source_{at}\n{block}" for at in range(count)
+            )
+            said = "\n".join(where.Search("seldom", {"mount/mutants/a.c.mutants": text}).screen())
+            places = re.findall(r"mount/a_mutant_of_that_source_(\d+) \(a\.c\.mutants:(\d+)\)", said)
+            if count == 39:
+                self.assertEqual(places, [(str(at), str(5 * at + 4)) for at in range(count)])
+            else:
+                self.assertIn("mutants     mount/mutants/a.c.mutants 400 mutants", said)
+
+    def test_many_edits_of_many_crates_are_counted(self):
+        block = "file: src/a.rt\nold: seldom\nnew: often\n"
+        for crates in (39, 300):
+            said = "\n".join(
+                where.Search(
+                    "seldom", {f"crates/some_crate_{at}/must-fail/x.edit": block for at in range(crates)}
+                ).screen()
+            )
+            self.assertEqual(len(re.findall(r"some_crate_\d+/x \(no function\)", said)), 39 if crates == 39 else 0)
+            self.assertEqual("edits       300 files in crates" in said, crates == 300)
+
+    def test_the_option_lists_all(self):
+        texts = self.search_of(400, 2).texts
+        for arguments, files in ((["seldom"], 0), (["--all", "seldom"], 400)):
+            said = io.StringIO()
+            with mock.patch.object(where, "repository", lambda: texts), contextlib.redirect_stdout(said):
+                self.assertEqual(where.main(arguments), 0)
+            self.assertEqual(len(re.findall(r"\bt\d+\.py:1,2$", said.getvalue(), re.M)), files)
+
+    def test_a_long_folder_takes_several_lines(self):
+        texts = {f"part/tests/a_very_long_name_of_a_test_{at}.py": "seldom\n" for at in range(30)}
+        said = where.Search("seldom", texts).screen()
+        self.assertEqual(sum(line.count("_test_") for line in said), 30)
+        self.assertLessEqual(max(map(len, said)), 150)
+        self.assertTrue(all(line[12:].startswith("part/tests/ ") for line in said[1:]))
+
+    def test_many_definitions_are_cut(self):
+        texts = {f"p{at}.py": "def seldom():\n" for at in range(40)}
+        self.assertIn("            and 32 more lines", where.Search("seldom", texts).screen())
+        del texts["p7.py"]
+        said = where.Search("seldom", texts).screen()
+        self.assertEqual(sum("def seldom" in line for line in said), 39)
 
 
 if __name__ == "__main__":

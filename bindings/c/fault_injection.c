@@ -2,6 +2,7 @@
  *
  * A fault waits at its engine until the path was named often enough. What a vanished group had is killed and removed by lines, so
  * it is recorded like any other command. */
+#include "freezer.h"
 #include "lines.h"
 #include <stdlib.h>
 #include <string.h>
@@ -68,6 +69,7 @@ static uint32_t vanish(mk0_handle *engine, const char *path)
 	if (status == MK_DONE)
 		status = remove_groups(engine, (const char *)groups, told.len);
 	free(groups);
+	freezer_look(slot_of(engine));
 	return status == MK_OUT_OF_MEMORY ? status : (uint32_t)MK_DONE;
 }
 

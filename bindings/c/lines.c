@@ -195,3 +195,22 @@ size_t take_text(const char *answer, size_t len, char *text)
 	}
 	return taken;
 }
+
+uint32_t ask_text(mk0_handle *engine, const struct line *line, const struct buffer *text, mk0_info *told)
+{
+	struct answer answer;
+	uint32_t status = ask_long(engine, line, text->at, text->size, &answer, told);
+	size_t len = status == MK_DONE ? take_text(answer.bytes, told->len, answer.bytes) : 0;
+	told->len = len;
+	if (status == MK_DONE && len + 1 > text->size) {
+		ask_again(engine, line);
+		*told = (mk0_info){ .needed = len + 1 };
+		status = MK_TOO_SMALL;
+	}
+	if (status == MK_DONE) {
+		memmove(text->at, answer.bytes, len);
+		text->at[len] = 0;
+	}
+	free(answer.memory);
+	return status;
+}

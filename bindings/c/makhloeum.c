@@ -9,6 +9,7 @@
  * - A fork locks all slots. An error-checking mutex could not be unlocked in the child, whose thread has another id.
  */
 #include "makhloeum.h"
+#include "freezer.h"
 #include "lines.h"
 #include "private.h"
 #include <signal.h>
@@ -82,6 +83,7 @@ static void look_for_a_change(struct slot *slot)
 	if (depth == slot->depth)
 		return;
 	slot->depth = depth;
+	freezer_look(slot);
 	slot->changes++;
 	pthread_cond_broadcast(&slot->changed);
 }
@@ -244,6 +246,7 @@ PUBLIC uint32_t mk_close(mk_handle *h)
 	status = mk0_close(engine);
 	slot->serial = 0;
 	faults_drop(slot);
+	freezer_drop(slot);
 	pthread_cond_broadcast(&slot->changed);
 	pthread_mutex_unlock(&slot->lock);
 	pthread_mutex_lock(&registry);

@@ -10,6 +10,7 @@
 #define PUBLIC __attribute__((visibility("default")))
 
 struct fault;
+struct frozen;
 
 /* The caller's memory for an answer. */
 struct buffer {
@@ -26,6 +27,7 @@ struct slot {
 	uint64_t changes;
 	size_t depth; /* at the newest change */
 	struct fault *faults;
+	struct frozen *frozen; /* freezer.c */
 	struct slot *next;
 	struct slot *next_free;
 };

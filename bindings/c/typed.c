@@ -1,6 +1,6 @@
 /* A call for each command, and for each number of a group, over the lines of the trace language. */
+#include "freezer.h"
 #include "lines.h"
-#include "private.h"
 #include <stdlib.h>
 #include <string.h>
 
@@ -89,29 +89,15 @@ PUBLIC uint32_t mk_words(mk_handle *h, uint64_t number, const char *words, const
 
 /* ---- texts */
 
-/* The buffer needs room only for the text: not for the answer, which has marks too. */
 static uint32_t read_text(mk_handle *h, const struct line *line, char *text, size_t size, mk_info *info)
 {
 	mk0_handle *engine;
 	mk0_info told = { 0 };
-	struct answer answer;
 	uint32_t status = enter(h, &engine);
-	if (status != MK_DONE)
-		return tell(info, status, &told);
-	status = ask_long(engine, line, text, size, &answer, &told);
-	size_t len = status == MK_DONE ? take_text(answer.bytes, told.len, answer.bytes) : 0;
-	told.len = len;
-	if (status == MK_DONE && len + 1 > size) {
-		ask_again(engine, line);
-		told = (mk0_info){ .needed = len + 1 };
-		status = MK_TOO_SMALL;
-	}
-	leave(engine);
 	if (status == MK_DONE) {
-		memmove(text, answer.bytes, len);
-		text[len] = 0;
+		status = ask_text(engine, line, &(struct buffer){ text, size }, &told);
+		leave(engine);
 	}
-	free(answer.memory);
 	return tell(info, status, &told);
 }
 
@@ -232,6 +218,7 @@ PUBLIC uint32_t mk_undo_to(mk_handle *h, size_t mark, mk_info *info)
 	for (; status == MK_DONE && depth > mark; depth--) {
 		status = mk0_undo(engine, 0, (uint8_t *)out, sizeof out, &told);
 		undone += status == MK_DONE;
+		freezer_look(slot_of(engine));
 	}
 	leave(engine);
 	told.len = 0;

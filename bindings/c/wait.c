@@ -24,13 +24,14 @@ static struct timespec after(uint32_t milliseconds)
 PUBLIC uint32_t mk_changes(mk_handle *h, uint64_t *changes)
 {
 	mk0_handle *engine;
-	*changes = 0;
+	uint64_t found = 0;
 	uint32_t status = enter(h, &engine);
-	if (status != MK_DONE)
-		return status;
-	*changes = slot_of(engine)->changes;
-	leave(engine);
-	return MK_DONE;
+	if (status == MK_DONE) {
+		found = slot_of(engine)->changes;
+		leave(engine);
+	}
+	*changes = found;
+	return status;
 }
 
 /* A wait of a call that is in the engine of the slot. */

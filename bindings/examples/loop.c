@@ -1,4 +1,4 @@
-/* An event loop that serves commands from standard input and, at each tick of a timer, looks for groups that are full.
+/* An event loop that serves commands from standard input and, at the first tick of a timer after them, names the groups that are full.
  *     printf 'mkdir /a\nwrite /a pids.max 1\nwrite /a cgroup.procs 1\n' | ./loop
  */
 #include <makhloeum.h>
@@ -13,7 +13,8 @@ struct service {
 	mk_handle hierarchy;
 	char line[LINE_BYTES];
 	size_t len;
-	uint64_t number;
+	uint64_t number; /* of the last command */
+	uint64_t looked; /* the number at the last look for full groups */
 };
 
 /* Answers each whole line that has come. */
@@ -41,6 +42,9 @@ static void look_for_full_groups(struct service *it)
 	static uint8_t paths[MK_GROUPS_MAX];
 	mk_info info;
 	uint64_t current, limit;
+	if (it->looked == it->number)
+		return;
+	it->looked = it->number;
 	if (mk_groups(&it->hierarchy, paths, sizeof paths, &info) != MK_DONE)
 		return;
 	const char *path = (const char *)paths;

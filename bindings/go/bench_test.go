@@ -43,7 +43,7 @@ func BenchmarkCurrent(b *testing.B) {
 // A sweep over 1,024 groups beside 100,000 processes, in one call. It takes a thousand times as long as the others, so it runs for
 // bindings/bench alone.
 func BenchmarkSweep(b *testing.B) {
-	const groups, processes = 1024, 100_000
+	const groups, processes = slots, 100_000
 	if os.Getenv("MAKHLOEUM_SWEEP") == "" {
 		b.Skip("MAKHLOEUM_SWEEP is not set")
 	}

@@ -178,7 +178,7 @@ func TestFaultsCountOperationsOnFiles(t *testing.T) {
 	do(t, h, "mkdir /a")
 	for want, operation := range map[string]func() error{
 		"open a/pids.max: read /a pids.max":         func() error { _, err := f.ReadFile("a/pids.max"); return err },
-		"open a/cpu.stat: has_group /a":             func() error { _, err := f.ReadFile("a/cpu.stat"); return err },
+		"open a/cpu.stat: read /a cpu.stat":         func() error { _, err := f.ReadFile("a/cpu.stat"); return err },
 		"stat a: has_group /a":                      func() error { _, err := f.Stat("a"); return err },
 		"stat a/pids.current: read /a pids.current": func() error { _, err := f.Stat("a/pids.current"); return err },
 		"open a: children /a":                       func() error { _, err := f.ReadDir("a"); return err },

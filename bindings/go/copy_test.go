@@ -14,7 +14,7 @@ func copied(t testing.TB, h *Hierarchy) *Hierarchy {
 	if err != nil {
 		t.Fatal(err)
 	}
-	t.Cleanup(other.Close)
+	closeAtEnd(t, other)
 	return other
 }
 

@@ -2,7 +2,10 @@ package makhloeum
 
 import (
 	"errors"
+	"fmt"
 	"io/fs"
+	"os"
+	"regexp"
 	"strings"
 	"syscall"
 	"testing"
@@ -65,7 +68,7 @@ func TestTextOfErrors(t *testing.T) {
 
 // A buffer grows to what is needed, else by four, and not beyond the longest answer.
 func TestHowABufferGrows(t *testing.T) {
-	const most = 32 + 10*4194303 // a first line, and a line for each pid
+	const most = 32 + 10*pidMax // a first line, and a line for each pid
 	for _, row := range [][3]int{
 		{512, 513, 513}, {512, 100000, 100000}, {512, 512, 2048}, {512, 0, 2048}, {100, 50, 400}, {most / 4, 0, most / 4 * 4}, {most/4 + 1, 0, most}, {most, 0, most},
 	} {
@@ -83,8 +86,8 @@ func TestFaultOfAPath(t *testing.T) {
 		position int
 	}{
 		{"", NotRooted, 0}, {"a", NotRooted, 0}, {"/a ", BadByte, 2}, {"/a\x00", BadByte, 2}, {"/a\n", BadByte, 2}, {"/\xff", BadByte, 1},
-		{"/a/", EmptyName, 3}, {"/..", DotName, 1}, {"/a/cgroup.b", ReservedName, 3}, {"/" + strings.Repeat("x", 256), NameTooLong, 1},
-		{strings.Repeat("/x", 33), TooDeep, 65}, {"/" + strings.Repeat("x", 4095), PathTooLong, 4095},
+		{"/a/", EmptyName, 3}, {"/..", DotName, 1}, {"/a/cgroup.b", ReservedName, 3}, {"/" + strings.Repeat("x", nameMax+1), NameTooLong, 1},
+		{strings.Repeat("/x", depthMax+1), TooDeep, 2*depthMax + 1}, {"/" + strings.Repeat("x", pathMax), PathTooLong, pathMax},
 	} {
 		_, here := h.HasGroup(row.path)
 		_, below := h.Children(row.path)
@@ -94,6 +97,51 @@ func TestFaultOfAPath(t *testing.T) {
 			if !errors.As(err, &refused) || refused.Code != BadPath || refused.PathFault != row.fault || refused.Position != row.position {
 				t.Errorf("%q: %v", row.path, err)
 			}
+		}
+	}
+}
+
+// codes and path faults are printed as the names of their constants, and other numbers with their type.
+func TestCodesAndFaultsPrintAsWords(t *testing.T) {
+	for want, it := range map[string]fmt.Stringer{
+		"NoGroup": NoGroup, "Exists": Exists, "PidsMax": PidsMax, "NotReadable": NotReadable, "BadSyntax": BadSyntax, "BadValue": BadValue,
+		"NotRooted": NotRooted, "EmptyName": EmptyName, "ReservedName": ReservedName,
+		"Code(0)": Code(0), "Code(15)": NothingToUndo + 1, "Code(31)": BadSyntax - 1, "Code(37)": BadValue + 1,
+		"PathFault(0)": PathFault(0), "PathFault(9)": ReservedName + 1,
+	} {
+		if got := fmt.Sprint(it); got != want {
+			t.Errorf("%s; not %s", got, want)
+		}
+	}
+	var refused *Refused
+	if err := open(t).Mkdir("/a/"); !errors.As(err, &refused) {
+		t.Fatal(err)
+	}
+	if got := fmt.Sprintf("%v %v %+v", refused.Code, refused.PathFault, struct{ Code Code }{refused.Code}); got != "BadPath EmptyName {Code:BadPath}" {
+		t.Error(got)
+	}
+}
+
+// each constant in errors.go has its own name as its text.
+func TestEachConstantPrintsAsItsName(t *testing.T) {
+	text, err := os.ReadFile("errors.go")
+	if err != nil {
+		t.Fatal(err)
+	}
+	found := regexp.MustCompile(`(?m)^\t(\w+) +(Code|PathFault) = C\.`).FindAllStringSubmatch(string(text), -1)
+	if len(found) != len(codeNames)+len(pathFaultNames) || len(found) != 27 {
+		t.Error(len(found), "constants")
+	}
+	names := map[string]bool{}
+	for code, name := range codeNames {
+		names["Code "+name] = name == code.String()
+	}
+	for fault, name := range pathFaultNames {
+		names["PathFault "+name] = name == fault.String()
+	}
+	for _, row := range found {
+		if !names[row[2]+" "+row[1]] {
+			t.Errorf("%s has no text", row[1])
 		}
 	}
 }

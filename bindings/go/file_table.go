@@ -17,7 +17,6 @@ type file struct {
 	name     string
 	onRoot   bool
 	writable bool
-	constant string
 }
 
 // The files of a mount with --extra that can be read, in the order of their names.
@@ -33,11 +32,7 @@ func readableFiles() []file {
 		if !it.readable {
 			continue
 		}
-		row := file{name: C.GoString(it.name), onRoot: bool(it.on_root), writable: bool(it.writable)}
-		if it.constant != nil {
-			row.constant = C.GoString(it.constant)
-		}
-		all = append(all, row)
+		all = append(all, file{name: C.GoString(it.name), onRoot: bool(it.on_root), writable: bool(it.writable)})
 	}
 }
 
@@ -57,14 +52,35 @@ func fileNamed(name, group string) (file, bool) {
 	return file{}, false
 }
 
+// cNames returns the path of a group and the name of a file for C, and what frees them.
+func cNames(group, name string) (path, file *C.char, free func()) {
+	path, file = cPath(group), C.CString(name)
+	return path, file, func() {
+		C.free(unsafe.Pointer(path))
+		C.free(unsafe.Pointer(file))
+	}
+}
+
+// get returns the text of a file as a mount shows it.
+func (h *Hierarchy) get(group, name string) (string, error) {
+	path, file, free := cNames(group, name)
+	defer free()
+	c := newCall()
+	defer c.end()
+	text, err := c.told(command{text: "read " + group + " " + name, path: group, hasPath: true}, func() C.uint32_t {
+		return C.mk_get(&h.handle, path, file, (*C.char)(unsafe.Pointer(at(c.out))), C.size_t(len(c.out)), &c.info)
+	})
+	runtime.KeepAlive(h)
+	return string(text), err
+}
+
 // put writes a file as a write to a mount's does. The error of a refusal is the errno of the mount.
 func (h *Hierarchy) put(group, name string, data []byte, self int) error {
 	if strings.Contains(name, "\x00") {
 		return syscall.ENOENT
 	}
-	path, file := cPath(group), C.CString(name)
-	defer C.free(unsafe.Pointer(path))
-	defer C.free(unsafe.Pointer(file))
+	path, file, free := cNames(group, name)
+	defer free()
 	var info C.mk_info
 	status := C.mk_put(&h.handle, path, file, (*C.char)(unsafe.Pointer(at(data))), C.size_t(len(data)), C.int64_t(self), &info)
 	runtime.KeepAlive(h)

@@ -54,16 +54,6 @@ func groupOf(name string) string {
 	return "/" + name
 }
 
-func (f FS) fileNode(group string, it file) (*node, error) {
-	n := &node{name: it.name, mode: it.mode(), text: it.constant}
-	if it.constant != "" {
-		return n, nil
-	}
-	var err error
-	n.text, err = f.h.Read(group, it.name)
-	return n, err
-}
-
 // find returns the group or file of that name. A group that is removed meanwhile is not found.
 func (f FS) find(operation, name string) (*node, error) {
 	if !fs.ValidPath(name) {
@@ -80,23 +70,16 @@ func (f FS) find(operation, name string) (*node, error) {
 func (f FS) node(name string) (*node, error) {
 	group, base := groupOf(path.Dir(name)), path.Base(name)
 	it, isFile := fileNamed(base, group)
-	isFile = isFile && name != "."
-	if isFile && it.constant == "" {
-		n, err := f.fileNode(group, it)
-		return n, notFound(err)
+	if isFile && name != "." {
+		text, err := f.h.get(group, base)
+		return &node{name: base, mode: it.mode(), text: text}, notFound(err)
 	}
-	if !isFile {
-		group = groupOf(name)
-	}
-	there, err := f.h.HasGroup(group)
+	there, err := f.h.HasGroup(groupOf(name))
 	if err == nil && !there {
 		err = syscall.ENOENT
 	}
 	if err != nil {
 		return nil, notFound(err)
-	}
-	if isFile {
-		return f.fileNode(group, it)
 	}
 	return &node{name: base, mode: fs.ModeDir | 0o755}, nil
 }
@@ -107,7 +90,7 @@ func notFound(err error) error {
 	if !errors.As(err, &refused) || refused.Code != BadPath {
 		return err
 	}
-	if refused.PathFault == NameTooLong || refused.PathFault == PathTooLong {
+	if refused.PathFault == PathTooLong {
 		return syscall.ENAMETOOLONG
 	}
 	return syscall.ENOENT
@@ -225,7 +208,7 @@ func (o *openGroup) ReadDir(n int) ([]fs.DirEntry, error) {
 }
 
 // WriteFile writes data to the file of that name, as os.WriteFile does below a mount: numbers may be octal, hexadecimal or signed, a
-// constant accepts its current value, and 0 in cgroup.procs is this process. The error is the errno of a mount, such as
+// constant accepts its current value, cgroup.freeze freezes, and 0 in cgroup.procs is this process. The error is the errno of a mount, such as
 // syscall.ENOENT, EINVAL, ERANGE or ESRCH. A kill takes time for each process that it ends.
 func (f FS) WriteFile(name string, data []byte) error {
 	if !fs.ValidPath(name) || name == "." {

@@ -40,7 +40,7 @@ func TestFileSystemChanges(t *testing.T) {
 		want error
 	}{
 		{f.Mkdir("a"), fs.ErrExist}, {f.Mkdir("x/y"), fs.ErrNotExist}, {f.Mkdir("/a"), fs.ErrInvalid}, {f.Remove("a"), syscall.EBUSY},
-		{f.WriteFile("a/none", nil), fs.ErrNotExist}, {f.WriteFile("a/cgroup.freeze", []byte("1")), syscall.EOPNOTSUPP},
+		{f.WriteFile("a/none", nil), fs.ErrNotExist}, {f.WriteFile("a/cgroup.freeze", []byte("2")), syscall.ERANGE},
 		{f.WriteFile("x/pids.max", []byte("1")), fs.ErrNotExist}, {f.WriteFile("a/pids.max", []byte("x")), syscall.EINVAL},
 		{f.WriteFile("x/cgroup.freeze", []byte("0")), fs.ErrNotExist}, {f.WriteFile("cgroup.type", []byte("domain")), fs.ErrNotExist},
 		{f.WriteFile("cgroup.kill", []byte("1")), fs.ErrNotExist}, {f.WriteFile("a/cpu.stat", []byte("1")), syscall.EINVAL},
@@ -94,7 +94,7 @@ func TestWritesAreThoseOfAMount(t *testing.T) {
 		do(t, h, "mkdir "+deep)
 	}
 	for _, row := range []struct{ err, want error }{
-		{f.Mkdir("pids.x"), syscall.EINVAL}, {f.Mkdir("a b"), syscall.EINVAL}, {f.Mkdir(strings.Repeat("x", 256)), syscall.ENAMETOOLONG},
+		{f.Mkdir("pids.x"), syscall.EINVAL}, {f.Mkdir("a b"), syscall.EINVAL}, {f.Mkdir(strings.Repeat("x", nameMax+1)), syscall.ENAMETOOLONG},
 		{f.Mkdir(deep[1:] + "/d"), syscall.EAGAIN}, {f.Mkdir("e/" + deep[1:]), syscall.ENOENT}, {f.Mkdir("a/pids.max"), syscall.EEXIST}, {f.Remove("a/pids.max"), syscall.EPERM},
 		{f.Remove("a b"), syscall.ENOENT}, {f.Remove("."), syscall.EBUSY}, {f.WriteFile("a/x\x00y", nil), syscall.ENOENT},
 		{f.WriteFile("a/pids.max\x00y", []byte("7")), syscall.ENOENT}, {f.Remove("x/pids.max"), syscall.ENOENT}, {f.Mkdir("x/pids.max"), syscall.ENOENT},
@@ -105,10 +105,34 @@ func TestWritesAreThoseOfAMount(t *testing.T) {
 	}
 }
 
+// A freeze is shown by the files, and not by the engine; cgroup.threads has the pids.
+func TestTheFreezer(t *testing.T) {
+	h := open(t)
+	do(t, h, "mkdir /a", "mkdir /a/b", "write /a/b cgroup.procs 1")
+	f := h.FS()
+	show := func(name, want string) {
+		t.Helper()
+		text, err := f.ReadFile(name)
+		says(t, want, string(text), err)
+	}
+	for _, freezes := range []string{"0", "1", "0"} {
+		if err := f.WriteFile("a/cgroup.freeze", []byte(freezes+"\n")); err != nil {
+			t.Error(err)
+		}
+		show("a/cgroup.freeze", freezes+"\n")
+		show("a/cgroup.events", "populated 1\nfrozen "+freezes+"\n")
+		show("a/b/cgroup.events", "populated 1\nfrozen "+freezes+"\n")
+		text, err := h.Read("/a", "cgroup.events")
+		says(t, "populated 1\nfrozen 0\n", text, err)
+	}
+	show("a/b/cgroup.threads", "1\n")
+	show("cgroup.threads", "")
+}
+
 func TestNamesThatNoGroupHas(t *testing.T) {
 	f := open(t).FS()
 	long := strings.Repeat("x/", 2100) + "x"
-	for name, want := range map[string]error{long: syscall.ENAMETOOLONG, strings.Repeat("x", 256): syscall.ENAMETOOLONG, "a b": syscall.ENOENT, "pids.x": syscall.ENOENT} {
+	for name, want := range map[string]error{long: syscall.ENAMETOOLONG, strings.Repeat("x", nameMax+1): syscall.ENOENT, "a b": syscall.ENOENT, "pids.x": syscall.ENOENT} {
 		_, open := f.Open(name)
 		_, stat := f.Stat(name)
 		_, list := f.ReadDir(name)
@@ -124,8 +148,8 @@ func TestNamesThatNoGroupHas(t *testing.T) {
 func TestWritesBelowNamesThatNoGroupHas(t *testing.T) {
 	f := open(t).FS()
 	for name, want := range map[string]error{
-		strings.Repeat("x/", 2100) + "pids.max": syscall.ENAMETOOLONG, strings.Repeat("x", 256) + "/pids.max": syscall.ENAMETOOLONG,
-		"a b/pids.max": syscall.ENOENT, "pids.x/pids.max": syscall.ENOENT, strings.Repeat("d/", 33) + "cgroup.procs": syscall.ENOENT, "a\x00/cgroup.type": syscall.ENOENT,
+		strings.Repeat("x/", 2100) + "pids.max": syscall.ENAMETOOLONG, strings.Repeat("x", nameMax+1) + "/pids.max": syscall.ENOENT,
+		"a b/pids.max": syscall.ENOENT, "pids.x/pids.max": syscall.ENOENT, strings.Repeat("d/", depthMax+1) + "cgroup.procs": syscall.ENOENT, "a\x00/cgroup.type": syscall.ENOENT,
 	} {
 		_, read := f.ReadFile(name)
 		for operation, err := range map[string]error{"read": read, "write": f.WriteFile(name, []byte("1"))} {

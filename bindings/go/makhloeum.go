@@ -65,9 +65,10 @@ func made(operation string, fill func(h *Hierarchy) uint32) (*Hierarchy, error) 
 	return h, nil
 }
 
-// Close waits for the call that is running and frees the engine. Every later call returns ErrClosed; a second Close does
-// nothing. It takes time for each group, process and recorded command.
-func (h *Hierarchy) Close() { C.mk_close(&h.handle) }
+// Close waits for the call that is running and frees the engine. Every later call returns ErrClosed, a second Close too. The error is
+// ErrClosed or ErrBusy, so the first Close of a program without handlers in C has none. It takes time for each group, process and
+// recorded command.
+func (h *Hierarchy) Close() error { return h.errorOf("close", C.mk_close(&h.handle)) }
 
 // at returns a pointer for a text that may be empty.
 func at(text []byte) *C.uint8_t {

@@ -32,6 +32,7 @@ func TestAClosedHierarchyNamesTheMethod(t *testing.T) {
 		"depth":              only(h.Depth()),
 		"forget":             h.Forget(),
 		"copy":               only(h.Copy()),
+		"close":              h.Close(),
 		"children /a":        only(h.Children("/a")),
 		"groups /a":          only(h.Groups("/a")),
 		"has_group /a":       only(h.HasGroup("/a")),
@@ -88,7 +89,7 @@ func TestFieldsOfARefusal(t *testing.T) {
 // The values beside an error, and those of a group without processes and limits.
 func TestValuesOfNothing(t *testing.T) {
 	h := newWithGroup(t)
-	t.Cleanup(h.Close)
+	closeAtEnd(t, h)
 	for path, there := range map[string]bool{"/a": true, "/none": false} {
 		current, err := h.Current(path)
 		peak, errOfPeak := h.Peak(path)
@@ -109,7 +110,7 @@ func TestValuesOfNothing(t *testing.T) {
 // Each error of the file system names the operation and the file.
 func TestErrorsOfTheFileSystemNameOperationAndFile(t *testing.T) {
 	f := newWithGroup(t).FS()
-	t.Cleanup(f.h.Close)
+	closeAtEnd(t, f.h)
 	only := func(_ interface{}, err error) error { return err }
 	group, err := f.Open("a")
 	if err != nil {
@@ -153,7 +154,7 @@ func TestErrorsOfTheFileSystemNameOperationAndFile(t *testing.T) {
 // Modes are those of a mount, and a size is that of the text.
 func TestModesAndSizes(t *testing.T) {
 	h := newWithGroup(t)
-	t.Cleanup(h.Close)
+	closeAtEnd(t, h)
 	f := h.FS()
 	do(t, h, "write /a cgroup.procs 1", "fork 1 23")
 	for name, want := range map[string]string{
@@ -197,7 +198,7 @@ func TestModesAndSizes(t *testing.T) {
 // An open file has the text that it had when it was opened; an open group is listed at its first ReadDir.
 func TestWhatIsOpenStaysAsItWas(t *testing.T) {
 	h := newWithGroup(t)
-	t.Cleanup(h.Close)
+	closeAtEnd(t, h)
 	file, err := h.FS().Open("a/pids.max")
 	if err != nil {
 		t.Fatal(err)

@@ -11,7 +11,8 @@ func TestVersion(t *testing.T) {
 	if err != nil {
 		t.Fatal(err)
 	}
-	if want := strings.TrimSpace(string(version)); Version() != want {
+	want := strings.TrimSpace(string(version))
+	if got := strings.TrimSuffix(Version(), " without proofs"); got != want {
 		t.Errorf("Version() is %q, not %q", Version(), want)
 	}
 }

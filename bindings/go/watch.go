@@ -9,7 +9,6 @@ import (
 	"context"
 	"runtime"
 	"strings"
-	"time"
 	"unsafe"
 )
 
@@ -73,7 +72,7 @@ func (w *watch) next(ctx context.Context) (string, bool) {
 	defer runtime.KeepAlive(w.h)
 	for ctx.Err() == nil {
 		var info C.mk_info
-		status := C.mk_wait_file(&w.h.handle, w.path, w.file, w.text, C.uint32_t(slice/time.Millisecond), w.text, w.size, &info)
+		status := C.mk_wait_file(&w.h.handle, w.path, w.file, w.text, C.uint32_t(milliseconds(slice)), w.text, w.size, &info)
 		switch status {
 		case C.MK_TIMED_OUT:
 		case C.MK_TOO_SMALL:

@@ -4,6 +4,7 @@ import (
 	"context"
 	"errors"
 	"fmt"
+	"os"
 	"runtime"
 	"strings"
 	"syscall"
@@ -11,7 +12,13 @@ import (
 	"time"
 )
 
-const patience = 300 * time.Second
+// patience is how long a test waits for what has to come: as long as a busy machine may take, or less with FAIL_FAST.
+var patience = func() time.Duration {
+	if os.Getenv("FAIL_FAST") != "" {
+		return 15 * time.Second
+	}
+	return 300 * time.Second
+}()
 
 // next is the next text of a watch; the end is "closed".
 func next(t *testing.T, texts <-chan string) string {
@@ -97,8 +104,13 @@ func TestAWatchEndsWithItsContextAndWithoutAFile(t *testing.T) {
 	ctx, cancel := context.WithCancel(context.Background())
 	texts := h.Watch(ctx, "/a", "cgroup.events")
 	says(t, "populated 0\nfrozen 0\n", next(t, texts), nil)
+	began := time.Now()
 	cancel()
 	says(t, "closed", next(t, texts), nil)
+	// on the busiest machine it has looked at its context a few hundred times by then
+	if took := time.Since(began); took > 400*slice {
+		t.Errorf("a watch ends %v after its context", took)
+	}
 	// nobody reads the first text
 	ctx, cancel = context.WithTimeout(context.Background(), 30*time.Millisecond)
 	defer cancel()

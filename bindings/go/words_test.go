@@ -25,9 +25,9 @@ func TestALongWordIsJudgedWhole(t *testing.T) {
 		_, err := h.Read(path, file)
 		return err
 	}
-	longest := strings.Repeat("/"+strings.Repeat("n", 255), 15) + "/" + strings.Repeat("n", 254)
+	longest := strings.Repeat("/"+strings.Repeat("n", nameMax), 15) + "/" + strings.Repeat("n", nameMax-1)
 	for _, n := range lengths {
-		path, file, digits := "/a/"+strings.Repeat("x", n+256), "pids.max"+strings.Repeat("x", n), strings.Repeat("5", n+7)
+		path, file, digits := "/a/"+strings.Repeat("x", n+nameMax+1), "pids.max"+strings.Repeat("x", n), strings.Repeat("5", n+7)
 		for what, row := range map[string]struct {
 			err  error
 			code Code

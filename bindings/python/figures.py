@@ -6,9 +6,10 @@ import sys
 import time
 
 from makhloeum import Hierarchy
+from makhloeum._table import SLOTS
 
 ROUNDS, CALLS, PIPED = 10, 20_000, 2_000
-GROUPS, PROCESSES = 1024, 100_000
+PROCESSES = 100_000
 
 
 def best_of(call, times, clock=time.process_time):
@@ -62,12 +63,12 @@ def by_pipes(program):
 
 def sweeps():
     with Hierarchy() as h:
-        paths = [f"/g{number}" for number in range(GROUPS)]
+        paths = [f"/g{number}" for number in range(SLOTS)]
         for path in paths:
             h.mkdir(path)
         for pid in range(2, PROCESSES + 2):
             h.fork(1, pid)
-            h.write(paths[pid % GROUPS], "cgroup.procs", pid)
+            h.write(paths[pid % SLOTS], "cgroup.procs", pid)
         pairs = [(path, "pids.current") for path in paths]
         assert sum(map(int, h.read_many(pairs))) == sum(map(h.current, paths)) == PROCESSES
         for what, call in {

@@ -1,13 +1,14 @@
 """The wheel is for one platform, since it contains the library, and for every Python 3.
 
 `pip install bindings/python` needs what bindings/build left, or MAKHLOEUM_LIBRARY with the path of a library. The version is
-that of the library.
+that of the library: 1.0.0+without.proofs for one that ./try made.
 """
 
 from __future__ import annotations
 
 import ctypes
 import os
+import re
 import shutil
 import sys
 from pathlib import Path
@@ -17,7 +18,7 @@ from setuptools.command.build_py import build_py
 from wheel.bdist_wheel import bdist_wheel
 
 HERE = Path(__file__).resolve().parent
-NAME = "libmakhloeum.so.1"
+NAME = re.findall('^_NAME = "(.*)"$', (HERE / "makhloeum" / "_library.py").read_text(), re.MULTILINE)[0]
 
 
 def library() -> Path:
@@ -35,7 +36,8 @@ def library() -> Path:
 def version() -> str:
     call = ctypes.CDLL(str(library())).mk_version
     call.restype = ctypes.c_char_p
-    return str(call().decode())
+    number, _, made = str(call().decode()).partition(" ")
+    return f"{number}+{made.replace(' ', '.')}" if made else number
 
 
 class Build(build_py):
@@ -48,12 +50,11 @@ class Build(build_py):
             return
         to = Path(self.build_lib) / "makhloeum"
         shutil.copyfile(found, to / NAME)
-        for name in ("rows", "text"):
-            worked = HERE.parent.parent / "evidence" / "linux" / name
-            if worked.is_dir():
-                (to / "check" / "worked" / name).mkdir(parents=True, exist_ok=True)
-                for trace in worked.glob("*.trace"):
-                    shutil.copyfile(trace, to / "check" / "worked" / name / trace.name)
+        for name in ("rows.recorded", "text.recorded"):
+            worked = HERE.parent.parent / "evidence" / "linux-6.12" / name
+            if worked.is_file():
+                (to / "check" / "worked").mkdir(parents=True, exist_ok=True)
+                shutil.copyfile(worked, to / "check" / "worked" / name)
 
 
 class Wheel(bdist_wheel):
@@ -66,4 +67,9 @@ class Wheel(bdist_wheel):
         return "py3", "none", super().get_tag()[2].replace("linux_", "manylinux_2_36_", 1)
 
 
-setup(version=version(), cmdclass={"build_py": Build, "bdist_wheel": Wheel})
+# In a checkout the sources of the page and of the check are in look, in a wheel's folder beside the modules.
+IN_LOOK = {
+    f"makhloeum.{name}": f"../../look/{name}" for name in ("page", "check") if not (HERE / "makhloeum" / name).is_dir()
+}
+
+setup(version=version(), package_dir=IN_LOOK, cmdclass={"build_py": Build, "bdist_wheel": Wheel})

@@ -9,6 +9,7 @@ import sys
 import time
 from typing import Iterator, Optional
 
+from .._output import writes
 from .engine import Words
 from .opening import Unusable
 from .playing import Counts, Difference, Next, Player, listed
@@ -23,7 +24,7 @@ and printed as a shell script that shows it. Nothing is left behind in DIR.
 """
 END = (
     "The status is 0 if there is no difference, 1 if there is one, and 2 if DIR cannot be checked, if the check was interrupted, "
-    "or if something in DIR could not be removed."
+    "if something in DIR could not be removed, or if standard output cannot be written."
 )
 _SHOWN_EVERY = 5.0  # seconds, where standard error is no terminal
 _ENDING = (signal.SIGINT, signal.SIGTERM, signal.SIGHUP)
@@ -183,15 +184,16 @@ def _checked(options: argparse.Namespace, player: Player) -> int:
     finally:
         _ignore_ending()
         player.close()
-    check.progress.clear()
+        check.progress.clear()
+        for path in player.left:
+            _say(options.directory, f"{path} could not be removed")
     print(check.told())
-    for path in player.left:
-        _say(options.directory, f"{path} could not be removed")
     if interrupted:
         _say(options.directory, "interrupted")
     return 1 if check.counts.differences else 2 if interrupted or player.left else 0
 
 
+@writes("makhloeum check", failed=2)
 def main(words: list[str]) -> int:
     options = _arguments(words)
     for number in _ENDING:

@@ -156,7 +156,9 @@ _NUMBER = re.compile(r"([+-]?)(0[xX][0-9a-fA-F]+|0[0-7]*|[1-9][0-9]*)")
 
 
 def kernel_number(text: str) -> Optional[int]:
-    """The number as the kernel reads it: with a sign, octal or hexadecimal; None if it is not a number."""
+    """The number as the kernel reads it: with a sign, octal or hexadecimal; None if it is not a number.
+
+    It is not the parser of the library and the mount, so that the check shares no fault with what it checks."""
     parts = _NUMBER.fullmatch(text)
     if not parts:
         return None

@@ -1,4 +1,4 @@
-"""The sequences that are played: the worked ones of evidence/linux, and random ones."""
+"""The sequences that are played: the worked ones of evidence/linux-6.12, and random ones."""
 
 from __future__ import annotations
 
@@ -7,13 +7,14 @@ import random
 import re
 from typing import Iterator, Optional
 
-from .._table import PIDS_LIMIT_MAX
+from .._table import GROUPS_LIMIT_MAX, PIDS_LIMIT_MAX
+from . import recordings
 from .engine import Engine, FILES, LIMITS, Words
 from .refusals import DEEPEST, NAMES, chosen, leading_to
 
 HERE = os.path.dirname(os.path.abspath(__file__))
 # beside this module if it is installed, else in the repository
-_PLACES = (os.path.join(HERE, "worked"), os.path.normpath(os.path.join(HERE, "../../../../evidence/linux")))
+_PLACES = (os.path.join(HERE, "worked"), os.path.normpath(os.path.join(HERE, "../../evidence/linux-6.12")))
 _SETS = ("rows", "text")
 GROUPS_AT_MOST = 12
 COMMANDS = 40
@@ -24,20 +25,17 @@ def worked(ways: list[str]) -> Iterator[tuple[str, str, list[Words]]]:
     seen = set()
     folder = next((place for place in _PLACES if os.path.isdir(place)), None)
     for kind in _SETS if folder else ():
-        for name in sorted(os.listdir(os.path.join(folder or "", kind))):
-            if not name.endswith(".trace"):
-                continue
-            way, commands = _read(os.path.join(folder or "", kind, name))
+        for recording in recordings.of_set(folder or "", kind):
+            way, commands = _read(recording.trace)
             way = "free" if ways == ["free"] else way
             key = (way, *(tuple(words) for words in commands))
             if way in ways and key not in seen:
                 seen.add(key)
-                yield f"{kind}/{name[:-6]}", way, commands
+                yield f"{kind}/{recording.name}", way, commands
 
 
-def _read(path: str) -> tuple[str, list[Words]]:
-    with open(path, encoding="latin1", newline="") as it:
-        lines = [re.findall(r"[^ \t\r]+", line) for line in it.read().split("\n")]
+def _read(trace: bytes) -> tuple[str, list[Words]]:
+    lines = [re.findall(r"[^ \t\r]+", line) for line in trace.decode("latin1").split("\n")]
     mode = lines[0][2] if lines[0][:2] == ["#", "mode"] else "D"
     return mode, [words for words in lines if words and not words[0].startswith("#")]
 
@@ -170,8 +168,8 @@ class Random:
         group = self._group(engine, beside_root=True)
         return self._choice.choice(
             [
-                ["write", group, "pids.max", self._choice.choice(["x", "-1", "4194305", "99999999999999999999"])],
-                ["write", group, "cgroup.max.depth", self._choice.choice(["x", "-1", "2147483648"])],
+                ["write", group, "pids.max", self._choice.choice(["x", "-1", f"{PIDS_LIMIT_MAX + 1}", "9" * 20])],
+                ["write", group, "cgroup.max.depth", self._choice.choice(["x", "-1", f"{GROUPS_LIMIT_MAX + 1}"])],
                 ["write", group, "cgroup.kill", self._choice.choice(["0", "2", "x"])],
                 ["write", group, "cgroup.procs", "x"],
                 ["write", group, "pids.current", "1"],

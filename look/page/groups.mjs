@@ -6,8 +6,8 @@ const LONG_NAME = 16, NAME_END = 12; // letters
 
 // A row of treeRows. `view` has the group that is chosen, of each group that the command changed its numbers on the command's
 // other side, the pids that the command brought, and how many letters the column of processes has.
-export function treeRow(run, { group, level, rest, children, closed }, view) {
-  const row = make("div", { className: "row", ariaLevel: String(level + 1) });
+export function treeRow(run, { group, level, place, beside, rest, children, closed }, view) {
+  const row = make("div", { className: "row", ariaLevel: String(level + 1), ariaPosInSet: String(place), ariaSetSize: String(beside) });
   row.style.setProperty("--level", level);
   if (!group) {
     row.append(make("span", { className: "name rest" }, rest > 0 ? `▸ ${count(rest)} more groups` : "▾ fold these groups"));

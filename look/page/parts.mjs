@@ -24,15 +24,32 @@ export function refill(box, ...children) {
   if (key !== null) ([...box.querySelectorAll("[data-key]")].find((one) => one.dataset.key === key) ?? box).focus({ preventScroll: true });
 }
 
+// The height of a row, which letters of another size make higher.
+function rowHeight(box) {
+  const sample = make("div", { className: "row sample" });
+  box.append(sample);
+  const tall = sample.getBoundingClientRect().height;
+  sample.remove();
+  return tall || 22;
+}
+
 // `draw` makes the row with a number; all have the same height. Size and place of the box are remembered, since asking for them
 // after a change makes the browser lay out the page.
 export class Rows {
   constructor(box, role, draw) {
-    Object.assign(this, { box, role, draw, count: 0, reached: -1, height: 22, space: make("div") });
+    Object.assign(this, { box, role, draw, count: 0, reached: -1, height: rowHeight(box), space: make("div") });
     Object.assign(this, { top: box.scrollTop, tall: box.clientHeight });
     box.append(this.space);
     box.addEventListener("scroll", () => Math.abs(box.scrollTop - this.top) >= 1 && this.moveTo(box.scrollTop));
-    new ResizeObserver(() => (this.tall = box.clientHeight, this.show(this.count, this.reached))).observe(box);
+    new ResizeObserver(() => this.measure()).observe(box);
+  }
+
+  // Letters of another size change the box too.
+  measure() {
+    this.tall = this.box.clientHeight;
+    this.height = rowHeight(this.box);
+    this.space.style.height = `${this.count * this.height}px`;
+    this.show(this.count, this.reached);
   }
 
   moveTo(top) {

@@ -17,8 +17,8 @@ import time
 from dataclasses import dataclass, field
 from typing import IO, Dict, Iterator, List, Optional, TextIO, Tuple
 
-from .._output import _nobody_reads
 from ..hierarchy import Hierarchy
+from .command_line import of_words
 
 BAR = 10
 PIDS_MOST = 16
@@ -194,8 +194,9 @@ class Watch:
         self.files: Dict[str, int] = {}
         self.poll = select.poll()
 
-    def follow(self, node: Node) -> None:
-        """Polls the event files of the existing groups."""
+    def follow(self, node: Node) -> bool:
+        """Polls the event files of the existing groups; whether it opened any."""
+        opened = False
         wanted = set()
         for path in list(_paths(self.folder, node))[:WATCHED_MOST]:
             wanted |= {os.path.join(path, file) for file in ("cgroup.events", "pids.events")}
@@ -207,6 +208,8 @@ class Watch:
             except OSError:
                 continue
             self.poll.register(self.files[path], select.POLLPRI)
+            opened = True
+        return opened
 
     def _drop(self, path: str) -> None:
         self.poll.unregister(self.files[path])
@@ -242,7 +245,9 @@ def watch(folder: str, seconds: float, out: TextIO) -> None:
     try:
         while os.path.exists(os.path.join(folder, "cgroup.procs")):
             node = of_directory(folder)
-            following.follow(node)
+            # what changed before an event file was opened is not announced by it
+            while following.follow(node):
+                node = of_directory(folder)
             text = drawn_for(node, out)
             if text != last:
                 out.write(("\x1b[H\x1b[2J" if out.isatty() else "" if last is None else "\n") + text)
@@ -274,14 +279,8 @@ def _words(words: List[str]) -> Optional[Tuple[str, Optional[float]]]:
     return (folders[0], seconds) if len(folders) == 1 and seconds != 0 else None
 
 
-def main(words: List[str]) -> int:
-    if words in (["--help"], ["-h"]):
-        print((__doc__ or "").strip())
-        return 0
-    wanted = _words(words)
-    if wanted is None:
-        print("makhloeum tree: bad command line; makhloeum tree --help shows it", file=sys.stderr)
-        return 2
+@of_words("makhloeum tree", __doc__, _words)
+def main(wanted: Tuple[str, Optional[float]]) -> int:
     folder, seconds = wanted
     try:
         os.close(os.open(os.path.join(folder, "cgroup.procs"), os.O_RDONLY))
@@ -304,8 +303,6 @@ def main(words: List[str]) -> int:
             watch(folder, seconds, sys.stdout)
     except KeyboardInterrupt:
         return 0
-    except BrokenPipeError:
-        return _nobody_reads()
     except OSError as failure:
         print(f"makhloeum tree: {failure}", file=sys.stderr)
         return 1

@@ -12,6 +12,7 @@ import sys
 from typing import List, Optional, Tuple
 
 from ..hierarchy import Hierarchy
+from .command_line import of_words
 from .history import History, shown
 from .page import page
 
@@ -62,15 +63,10 @@ def _is_same(trace: str, to: str) -> bool:
     return "-" not in (trace, to) and os.path.exists(to) and os.path.samefile(trace, to)
 
 
-def main(words: List[str]) -> int:
-    if words in (["--help"], ["-h"]):
-        print((__doc__ or "").strip())
-        return 0
-    wanted = _words(words)
-    if wanted is None:
-        _say("bad command line; makhloeum view --help shows it")
-        return 2
+@of_words("makhloeum view", __doc__, _words)
+def main(wanted: Tuple[str, str]) -> int:
     trace, to = wanted
+    at = "standard input" if trace == "-" else trace
     try:
         with Hierarchy() as h:
             history = History(h)
@@ -82,9 +78,10 @@ def main(words: List[str]) -> int:
             _say(f"the page would replace the trace {trace}")
             return 2
         name = "standard input" if trace == "-" else shown(os.fsencode(os.path.basename(trace)))
+        at = to
         _write(to, page(history, name))
-    except OSError as failure:
-        _say(str(failure))
+    except OSError as failure:  # of a write it names no file
+        _say(f"{at}: {failure.strerror}")
         return 1
     except MemoryError:
         _say("out of memory")

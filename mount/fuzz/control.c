@@ -1,14 +1,14 @@
 /* Writes to the control directory, one after another: a write that fails changes nothing, an undo of N removes N commands,
    forgetting removes all, and any other write adds one. */
-#include "control.h"
-#include "engine.h"
-#include "operations.h"
+#include "server/control.h"
+#include "engine/engine.h"
+#include "server/operations.h"
 #include <errno.h>
 #include <stdint.h>
 #include <stdlib.h>
 #include <string.h>
 
-static struct kept none = { .fd = -1 };
+static struct trace_file none = { .fd = -1 };
 
 static size_t lines(void)
 {

@@ -1,5 +1,8 @@
 /* The values that are written: what is accepted is what strtoll reads too, in its range, and says itself again. */
-#include "number.h"
+#include "common/bounds.h"
+#include "server/control_numbers.h"
+#include <limits.h>
+#include <number_parser.h>
 #include <stdint.h>
 #include <stdlib.h>
 #include <string.h>
@@ -28,8 +31,8 @@ static void check_number(const char *data, size_t size, const char *said, long l
 int LLVMFuzzerTestOneInput(const uint8_t *data, size_t size);
 int LLVMFuzzerTestOneInput(const uint8_t *data, size_t size)
 {
-	static const long long
-		most[] = { [A_PID] = 4194303, [A_COUNT] = 2147483647, [A_PIDS_LIMIT] = 4194304, [A_ONE] = 1, [A_SWITCH] = 1 };
+	static const long long most
+		[] = { [A_PID] = PID_MAX, [A_COUNT] = INT_MAX, [A_PIDS_LIMIT] = PIDS_LIMIT_MAX, [A_ONE] = 1, [A_SWITCH] = 1 };
 	char said[SAID_MAX], again[SAID_MAX];
 	unsigned long numbers[2];
 	if (size == 0)
@@ -37,14 +40,14 @@ int LLVMFuzzerTestOneInput(const uint8_t *data, size_t size)
 	enum value kind = (enum value)(A_PID + data[0] % 5);
 	const char *text = (const char *)data + 1;
 	size--;
-	if (value_said(kind, text, size, said) == 0) {
-		require(value_said(kind, said, strlen(said), again) == 0 && strcmp(said, again) == 0);
+	if (written_value(kind, text, size, said) == 0) {
+		require(written_value(kind, said, strlen(said), again) == 0 && strcmp(said, again) == 0);
 		if (strcmp(said, "max") != 0)
 			check_number(text, size, said, most[kind]);
 		else
 			require(kind == A_COUNT || kind == A_PIDS_LIMIT);
 	}
-	int count = numbers_said(text, size, numbers, 2);
+	int count = control_numbers_read(text, size, numbers, 2);
 	require(count <= 2);
 	return 0;
 }

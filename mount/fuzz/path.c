@@ -1,6 +1,7 @@
 /* Paths as the kernel gives them (no empty name, no . and ..): exactly those are taken that the engine takes. */
-#include "engine.h"
-#include "place.h"
+#include "common/bounds.h"
+#include "common/group_paths.h"
+#include "engine/engine.h"
 #include <makhloeum.h>
 #include <stdint.h>
 #include <stdlib.h>
@@ -8,7 +9,7 @@
 
 static bool from_kernel(const char *path, size_t size)
 {
-	if (size == 0 || size > 4095 || path[0] != '/')
+	if (size == 0 || size > PATH_BYTES || path[0] != '/')
 		return false;
 	for (const char *name = path; (name = strchr(name, '/')); name++) {
 		size_t n = strcspn(name + 1, "/");
@@ -35,7 +36,7 @@ int LLVMFuzzerTestOneInput(const uint8_t *data, size_t size)
 	if (!from_kernel(path, n))
 		return 0;
 	bool taken = mk_has_group(&engine, (const uint8_t *)path, n, &info) != MK_FAULT;
-	if ((path_fault(path) == 0) != taken)
+	if ((engine_path_fault(path) == 0) != taken)
 		abort();
 	memcpy(above, path, n + 1);
 	go_up(above);

@@ -1,9 +1,9 @@
 /* The values of kept controllers: what was taken is taken again as it is read, and then reads the same. An input begins with the
    name of a file and a line feed, or with a byte that chooses the file. */
-#include "values.h"
-#include "controllers.h"
-#include "engine.h"
-#include "machine.h"
+#include "values/values.h"
+#include "engine/engine.h"
+#include "values/controllers.h"
+#include "values/machine.h"
 #include <stdint.h>
 #include <stdlib.h>
 #include <string.h>
@@ -73,10 +73,10 @@ int LLVMFuzzerTestOneInput(const uint8_t *data, size_t size)
 			require(strcmp(text, again) == 0);
 		}
 	}
-	struct remembered *r = remembered_find("/");
+	struct group_state *r = group_state_find("/");
 	if (r)
 		values_forget(r, ~0U);
-	remembered_tidy(r);
+	group_state_tidy(r);
 	engine_unlock();
 	return 0;
 }

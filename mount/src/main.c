@@ -1,8 +1,12 @@
 /* The command line: makhloeum mount, makhloeum run, and the commands that are separate programs. */
-#include "run.h"
-#include "serve.h"
-#include "subcommand.h"
+#include "common/message.h"
+#include "run/execute.h"
+#include "run/run.h"
+#include "server/serve.h"
+#include <errno.h>
 #include <fcntl.h>
+#include <limits.h>
+#include <makhloeum.h>
 #include <stdio.h>
 #include <string.h>
 #include <unistd.h>
@@ -14,6 +18,7 @@ static const char help[] =
 	"makhloeum view TRACE [-o PAGE.html]\n"
 	"makhloeum tree DIR [--watch]\n"
 	"makhloeum check DIR\n"
+	"makhloeum --version\n"
 	"\n"
 	"mount shows a cgroup hierarchy on the directory DIR, as a cgroup2 file system. A process is only a number\n"
 	"there. It returns once the mount is in place. fusermount3 -u DIR unmounts it; so does killing the server.\n"
@@ -72,6 +77,26 @@ static bool have_streams(void)
 	return fd >= 0;
 }
 
+/* Whether a word asks for a text. */
+static bool asks(const char *word, const char *option, const char *letter)
+{
+	return strcmp(word, option) == 0 || strcmp(word, letter) == 0;
+}
+
+/* The status of a command line that asked for this text only. A standard output that nobody reads has no message, and the status
+   that a shell reports of SIGPIPE: who ignores that signal gets the same. */
+static int show(const char *text)
+{
+	enum { FAILED = 1, NOBODY_READS = 141 };
+	if (fputs(text, stdout) >= 0 && fflush(stdout) == 0)
+		return 0;
+	int fault = errno;
+	if (fault == EPIPE)
+		return NOBODY_READS;
+	say("write failed: %s", strerror(fault));
+	return FAILED;
+}
+
 static int bad(void)
 {
 	fprintf(stderr, "makhloeum: bad command line; see makhloeum --help\n");
@@ -107,21 +132,77 @@ static int read_options(int argc, char **argv, int at, struct wishes *w)
 			return -1;
 		if (options[i].word)
 			*options[i].word = argv[++at];
-		else
+		else if (options[i].flag)
 			*options[i].flag = true;
 	}
 	return at;
 }
 
+/* ---------------------------------------------------------------- commands that are separate programs */
+
+enum { UNKNOWN = 2, NAME_MOST = 64 };
+
+/* A name has no slash, so that makhloeum-NAME is a file in the folders that are searched. */
+static int is_name(const char *word)
+{
+	size_t size = strlen(word);
+	return size > 0 && size <= NAME_MOST && strspn(word, "abcdefghijklmnopqrstuvwxyz0123456789-") == size;
+}
+
+/* The folder of this program, or "" if the system doesn't say. */
+static void find_folder(char *folder, size_t size)
+{
+	ssize_t n = readlink("/proc/self/exe", folder, size - 1);
+	folder[n > 0 ? n : 0] = 0;
+	char *slash = strrchr(folder, '/');
+	if (slash)
+		*slash = 0;
+}
+
+/* Replaces this process by makhloeum-NAME; words[0] is NAME and the others are its arguments. It looks in the folders of
+   this installation (libexec/makhloeum beside the folder of this program, and that folder), then on PATH. It returns only
+   if there is no such program, with the status, after an error message. */
+static int subcommand_start(char **words)
+{
+	static const char *const places[] = { "/../libexec/makhloeum/", "/" };
+	char folder[PATH_MAX], file[PATH_MAX + 4 * NAME_MOST], program[2 * NAME_MOST];
+	const char *name = words[0];
+	if (!is_name(name)) {
+		say("'%s' is not a command; makhloeum --help lists them", name);
+		return UNKNOWN;
+	}
+	snprintf(program, sizeof program, "makhloeum-%s", name);
+	find_folder(folder, sizeof folder);
+	words[0] = program;
+	for (size_t i = 0; i < sizeof places / sizeof *places && folder[0]; i++) {
+		snprintf(file, sizeof file, "%s%s%s", folder, places[i], program);
+		execv(file, words);
+	}
+	int fault = execute(program, words);
+	if (fault == ENOENT)
+		say("'%s' is not a command, and there is no %s on PATH; makhloeum --help lists the commands", name, program);
+	else
+		say("%s cannot be started: %s", program, strerror(fault));
+	return UNKNOWN;
+}
+
 int main(int argc, char **argv)
 {
 	struct wishes w = { 0 };
+	bool has_command = argc >= 2 && (strcmp(argv[1], "run") == 0 || strcmp(argv[1], "mount") == 0);
+	if ((argc == 2 && asks(argv[1], "--help", "-h")) || (argc == 3 && has_command && asks(argv[2], "--help", "-h")))
+		return show(help);
+	/* as in cgshell, words behind it are ignored */
+	if (argc >= 2 && asks(argv[1], "--version", "-V")) {
+		char version[64];
+		snprintf(version, sizeof version, "makhloeum %s\n", mk_version());
+		return show(version);
+	}
+	if (argc >= 2 && !has_command)
+		return argv[1][0] == '-' ? bad() : subcommand_start(argv + 1);
+	/* only now: a command that is a separate program is told which of its streams are closed, and help says it */
 	if (!have_streams())
 		return 1;
-	if (argc == 2 && (strcmp(argv[1], "--help") == 0 || strcmp(argv[1], "-h") == 0))
-		return fputs(help, stdout) < 0 || fflush(stdout) ? 1 : 0;
-	if (argc >= 2 && strcmp(argv[1], "run") && strcmp(argv[1], "mount"))
-		return argv[1][0] == '-' ? bad() : subcommand_start(argv + 1);
 	if (argc < 3)
 		return bad();
 	int at = read_options(argc, argv, 2, &w);

@@ -32,13 +32,16 @@ def step(name, right, told=""):
             os._exit(1)
 
 
-NOTE = r"==\d+==Unable to get registers from thread \d+\.\n"
+# What the leak check of a program says that is killed in the middle of it. Any program with threads says so: the check stops them by
+# ptrace at the program's end, and finds that they are gone. `run` kills its server if that is still in its check two seconds after
+# the program has ended.
+NOTE = r"==\d+==(?:Unable to get registers from thread \d+\.|Running thread \d+ was not suspended\. False leaks are possible\.)\n"
 
 
 def without_notes(said):
-    """What a program said, without the note of its leak check that a thread ended meanwhile: that is no finding."""
-    if isinstance(said, tuple):
-        return tuple(without_notes(part) for part in said)
+    """What a program said, or several, without the notes of a leak check that was killed: they are no finding."""
+    if isinstance(said, (tuple, list)):
+        return type(said)(without_notes(part) for part in said)
     if isinstance(said, bytes):
         return re.sub(NOTE.encode(), b"", said)
     return re.sub(NOTE, "", said) if isinstance(said, str) else said
@@ -219,6 +222,27 @@ def run_each(tests, lanes=2):
     in_parallel(run, [t for t in tests if t.__name__ in sys.argv[1:] or not sys.argv[1:]], lanes)
 
 
+def run_beside_stalled(name, words, **environment):
+    """Runs this command, whose status has to be 0, beside a file system that doesn't answer; PAGE is the path of a file in it. The
+    file system ends before a run that hangs: until then a process that waits for it cannot be killed."""
+    home = tempfile.mkdtemp()
+    system = subprocess.Popen([os.path.join(BUILT, "stalled"), home], stderr=subprocess.DEVNULL)
+    if not until(lambda: os.path.ismount(home)):
+        step("%s: a file system that does not answer can be mounted" % name, False)
+        return
+    p = subprocess.Popen(words, start_new_session=True, env=dict(os.environ, PAGE=home + "/page", **environment))
+    try:
+        status = p.wait(6 * PATIENCE)
+    except subprocess.TimeoutExpired:
+        status = "it hangs"
+        p.kill()
+    system.kill()
+    subprocess.run(["fusermount3", "-u", "-q", "-z", home])
+    system.wait()
+    p.wait()
+    same("%s: its status" % name, status, 0)
+
+
 # ---- for programs under `run`: their hierarchy is at AT
 
 AT = "/sys/fs/cgroup"
@@ -299,6 +323,13 @@ def own_of(supervisor):
     line = line_of(supervisor)
     children = (int(n) for n in os.listdir("/proc") if n.isdigit() and line_of(int(n)) == line)
     return [pid for pid in children if parent_of(pid) == supervisor]
+
+
+def ticks():
+    """For a program under `run`: how long the processes beside its supervisor have worked, in hundredths of a second, which other
+    programs don't lengthen."""
+    stats = [open("/proc/%d/stat" % pid).read().rpartition(")")[2].split() for pid in own_of(tracer())]
+    return sum(int(stat[11]) + int(stat[12]) for stat in stats)
 
 
 def server_and_helper(supervisor):

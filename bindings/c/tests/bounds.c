@@ -2,7 +2,7 @@
    number of the first check that fails, or 0, and prints how many held. */
 #include "check.h"
 
-enum { PATH_BYTES = 4095, NAME_BYTES = 255, GROUPS = 1024, PROCESSES = 1000, GREATEST_PID = 4194303 };
+enum { PROCESSES = 1000 };
 #define GREATEST_LIMIT "2147483646"
 
 /* How many bytes the text of a file needs, with its zero byte. */
@@ -15,10 +15,10 @@ static size_t needed(const char *path, const char *file)
 /* The pids with the most digits. */
 static int pids(void)
 {
-	CHECK(done(mk_mkdir(&h, "/a", &info)) && done(mk_fork(&h, 1, GREATEST_PID, &info)) &&
-		done(mk_attach(&h, "/a", GREATEST_PID, &info)));
+	CHECK(done(mk_mkdir(&h, "/a", &info)) && done(mk_fork(&h, 1, PID_MAX, &info)) &&
+		done(mk_attach(&h, "/a", PID_MAX, &info)));
 	for (int64_t more = 1; more < PROCESSES; more++)
-		CHECK(done(mk_fork(&h, GREATEST_PID, GREATEST_PID - more, &info)));
+		CHECK(done(mk_fork(&h, PID_MAX, PID_MAX - more, &info)));
 	static char text[MK_READ_MAX(PROCESSES)];
 	CHECK(done(mk_read(&h, "/a", "cgroup.procs", text, sizeof text, &info)) && info.len == strlen(text));
 	CHECK(needed("/a", "cgroup.procs") == 8 * PROCESSES + 1 && sizeof text - needed("/a", "cgroup.procs") < 64);
@@ -34,7 +34,7 @@ static int other_files(void)
 	char path[32], text[MK_READ_MAX(0)];
 	for (size_t i = 0; i < sizeof limits / sizeof *limits; i++)
 		CHECK(done(mk_write(&h, "/a", limits[i][0], limits[i][1], &info)));
-	for (int i = 1; i < GROUPS; i++) {
+	for (int i = 1; i < SLOTS; i++) {
 		snprintf(path, sizeof path, "/a/%d", i);
 		CHECK(done(mk_mkdir(&h, path, &info)));
 	}
@@ -44,7 +44,7 @@ static int other_files(void)
 	for (size_t i = 0; (file = mk_file_at(i)) != NULL; i++) {
 		if (file->constant != NULL || !file->readable)
 			continue;
-		CHECK(done(mk_read(&h, "/a", file->name, text, sizeof text, &info)));
+		CHECK(done(mk_get(&h, "/a", file->name, text, sizeof text, &info)));
 		longest = info.len > longest ? info.len : longest;
 	}
 	CHECK(longest == strlen("nr_descendants 1023\nnr_dying_descendants 0\n") &&
@@ -100,7 +100,7 @@ static int listings(void)
 	char path[PATH_BYTES + 1], name[NAME_BYTES + 1];
 	uint8_t none[1];
 	CHECK(done(mk_undo_to(&h, 0, &info)));
-	for (int i = 0; i < GROUPS; i++) {
+	for (int i = 0; i < SLOTS; i++) {
 		snprintf(path, sizeof path, "/%0*d", NAME_BYTES, i);
 		CHECK(done(mk_mkdir(&h, path, &info)));
 	}
@@ -114,14 +114,14 @@ static int listings(void)
 		path[end] = '/';
 	}
 	char *last = strrchr(path, '/') + 1;
-	size_t needed = (size_t)(GROUPS - made) * (PATH_BYTES + 1);
-	for (int i = 0; made + i < GROUPS; i++) {
+	size_t needed = (size_t)(SLOTS - made) * (PATH_BYTES + 1);
+	for (int i = 0; made + i < SLOTS; i++) {
 		snprintf(name, sizeof name, "%0*d", NAME_BYTES - 1, i);
 		memcpy(last, name, NAME_BYTES);
 		CHECK(done(mk_mkdir(&h, path, &info)));
 	}
 	CHECK(mk_groups(&h, none, 0, &info) == MK_TOO_SMALL && info.needed > needed && info.needed < MK_GROUPS_MAX);
-	CHECK(MK_GROUPS_MAX == (GROUPS + 1) * (PATH_BYTES + 1) && done(mk_undo_to(&h, 0, &info)));
+	CHECK(MK_GROUPS_MAX == (SLOTS + 1) * (PATH_BYTES + 1) && done(mk_undo_to(&h, 0, &info)));
 	return 0;
 }
 
@@ -129,9 +129,9 @@ static int listings(void)
 static int answers(void)
 {
 	char first[64];
-	size_t len = (size_t)snprintf(first, sizeof first, "%llu ok\n| %d\n", (unsigned long long)UINT64_MAX, GREATEST_PID);
+	size_t len = (size_t)snprintf(first, sizeof first, "%llu ok\n| %d\n", (unsigned long long)UINT64_MAX, PID_MAX);
 	size_t each = strlen("| 4194303\n");
-	CHECK(MK_ANSWER_MAX >= len + each * (GREATEST_PID - 1) && MK_ANSWER_MAX - (len + each * (GREATEST_PID - 1)) < 32);
+	CHECK(MK_ANSWER_MAX >= len + each * (PID_MAX - 1) && MK_ANSWER_MAX - (len + each * (PID_MAX - 1)) < 32);
 	return 0;
 }
 

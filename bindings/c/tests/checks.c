@@ -250,8 +250,8 @@ static int faults_of_paths(void)
 	FAULT("/pids", 0, 0);
 	memset(text, 'a', sizeof text);
 	text[0] = '/';
-	CHECK(has_fault(text, 256, 0, 0) && has_fault(text, 257, MK_NAME_TOO_LONG, 1) &&
-		has_fault(text, 4096, MK_PATH_TOO_LONG, 4095));
+	CHECK(has_fault(text, NAME_BYTES + 1, 0, 0) && has_fault(text, NAME_BYTES + 2, MK_NAME_TOO_LONG, 1) &&
+		has_fault(text, PATH_BYTES + 1, MK_PATH_TOO_LONG, PATH_BYTES));
 	text[300] = ' '; /* a bad byte comes before the length of its name */
 	CHECK(has_fault(text, 310, MK_BAD_BYTE, 300));
 	for (size_t i = 0; i < 66; i += 2)

@@ -160,6 +160,9 @@ CALL(processes, mk_processes(&h, "/many", pids, MANY, &info))
 CALL(processes_short, mk_processes(&h, "/many", pids, 5, &info))
 CALL(many, mk_read_many(&h, names, 3, texts, text, OUT, &info))
 CALL(many_short, mk_read_many(&h, names, 3, texts, text, 9, &info))
+CALL(get, mk_get(&h, "/many", "cgroup.threads", text, OUT, &info))
+CALL(get_short, mk_get(&h, "/many", "cgroup.threads", text, 9, &info))
+CALL(freeze, mk_put(&h, "/a", "cgroup.freeze", "1", 1, 1, &info))
 CALL(put, mk_put(&h, "/a", "pids.max", "0x10", 4, 1, &info))
 CALL(put_on_root, mk_put(&h, "/", "pids.max", "1", 1, 1, &info))
 CALL(fail, mk_fail(&h, "/a", 1, EIO, &info))
@@ -194,10 +197,10 @@ static const struct {
 	ROW(short_line), ROW(words), ROW(undo), ROW(undo_all), ROW(undo_nothing), ROW(read_text), ROW(read_long),
 	ROW(read_short), ROW(read_nothing), ROW(where), ROW(children), ROW(groups), ROW(subtree), ROW(history),
 	ROW(has_group), ROW(current), ROW(limit), ROW(is_populated), ROW(processes), ROW(processes_short), ROW(many),
-	ROW(many_short), ROW(put), ROW(put_on_root), ROW(fail), ROW(fail_nowhere), ROW(vanish), ROW(clear), ROW(watch),
-	ROW(watch_short), ROW(open_other), ROW(open_again), ROW(copy), ROW(copy_nothing), ROW(copy_onto_itself),
-	ROW(failing_read), ROW(failing_many), ROW(failing_later), ROW(failing_list), ROW(failing_copy), ROW(vanished_read),
-	ROW(vanished_many), ROW(vanished_put) };
+	ROW(many_short), ROW(get), ROW(get_short), ROW(freeze), ROW(put), ROW(put_on_root), ROW(fail), ROW(fail_nowhere),
+	ROW(vanish), ROW(clear), ROW(watch), ROW(watch_short), ROW(open_other), ROW(open_again), ROW(copy),
+	ROW(copy_nothing), ROW(copy_onto_itself), ROW(failing_read), ROW(failing_many), ROW(failing_later),
+	ROW(failing_list), ROW(failing_copy), ROW(vanished_read), ROW(vanished_many), ROW(vanished_put) };
 
 /* A new hierarchy in the handle; what is recorded there can be undone by one call or by all. */
 static bool begin(void)

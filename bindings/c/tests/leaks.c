@@ -60,6 +60,17 @@ static bool use(mk_handle *h)
 	for (size_t i = 0; i < sizeof lines / sizeof *lines; i++)
 		if (mk_line(h, 1, (const uint8_t *)lines[i], strlen(lines[i]), out, sizeof out, &info) > MK_REFUSED)
 			return false;
+	/* one group is thawed, one removed, and one stays frozen */
+	static const char *const frozen[][2] = { { "/", "mkdir /c" }, { "/", "mkdir /d" }, { "/", "mkdir /e" },
+		{ "/c", "1" }, { "/d", "1" }, { "/e", "1" }, { "/c", "0" }, { "/", "rmdir /d" } };
+	for (size_t i = 0; i < sizeof frozen / sizeof *frozen; i++) {
+		const char *group = frozen[i][0], *text = frozen[i][1];
+		bool is_line = group[1] == 0;
+		uint32_t status = is_line ? mk_line(h, 1, (const uint8_t *)text, strlen(text), out, sizeof out, &info)
+								  : mk_put(h, group, "cgroup.freeze", text, 1, 1, &info);
+		if (status != MK_DONE)
+			return false;
+	}
 	return mk_copy(h, &copy) == MK_DONE && mk_close(h) == MK_DONE && mk_close(&copy) == MK_DONE;
 }
 

@@ -1,8 +1,7 @@
-/* The library reads values as the mount does: this is compiled with number.c of mount/src, and gives the same values to both.
-   The table of files is compared by python/tests/test_mounted.py. Exits with 1 at the first difference; prints how many
+/* What the parser of the kernel's numbers reads, which the mount compiles too; and mk_put writes that. The table of files is compared by python/tests/test_mounted.py. Exits with 1 at the first difference; prints how many
    comparisons held. */
 #include "makhloeum.h"
-#include "number.h"
+#include "number_parser.h"
 #include <errno.h>
 #include <stdio.h>
 #include <stdlib.h>
@@ -39,7 +38,7 @@ static void table(void)
 {
 	const mk_file *file;
 	for (size_t i = 0; (file = mk_file_at(i)) != NULL; i++) {
-		bool takes = false;
+		bool takes = strcmp(file->name, "cgroup.freeze") == 0; /* see freezer.c */
 		for (size_t at = 0; at < FILES; at++)
 			takes |= strcmp(file->name, files[at].name) == 0;
 		CHECK(i == 0 || strcmp(mk_file_at(i - 1)->name, file->name) < 0, "%s", file->name);
@@ -62,7 +61,7 @@ static const char *const blanks[] = { "", " ", "\n", "\t\r\n" };
 static int mount_error(const struct taking *file, const char *data, size_t size)
 {
 	char said[SAID_MAX];
-	int error = -value_said(file->value, data, size, said);
+	int error = -written_value(file->value, data, size, said);
 	if (error != 0)
 		return error;
 	if (file->value == A_PID && strcmp(said, "0") == 0)
@@ -103,6 +102,79 @@ static void values(void)
 		for (size_t size = 4094; size < 4099; size++)
 			compare(file, page, size);
 	}
+}
+
+/* what the kernel reads, or its errno */
+static const struct reading {
+	enum value value;
+	const char *data, *said;
+	int error;
+} readings[] = {
+	{ A_PID, "0", "0", 0 },
+	{ A_PID, "4194303", "4194303", 0 },
+	{ A_PID, "4194304", NULL, ESRCH },
+	{ A_PID, "2147483647", NULL, ESRCH },
+	{ A_PID, "2147483648", NULL, EINVAL },
+	{ A_PID, "-1", NULL, EINVAL },
+	{ A_PID, "99999999999999999999", NULL, EINVAL },
+	{ A_PID, "max", NULL, EINVAL },
+	{ A_COUNT, "max", "max", 0 },
+	{ A_COUNT, "maxx", NULL, EINVAL },
+	{ A_COUNT, "2147483647", "2147483647", 0 },
+	{ A_COUNT, "2147483648", NULL, ERANGE },
+	{ A_COUNT, "-1", NULL, ERANGE },
+	{ A_COUNT, "-9223372036854775809", NULL, ERANGE },
+	{ A_COUNT, "18446744073709551621", NULL, ERANGE },
+	{ A_COUNT, "99999999999999999999x", NULL, ERANGE },
+	{ A_COUNT, "0x100000000000000001", NULL, ERANGE },
+	{ A_COUNT, "02000000000000000000001", NULL, ERANGE },
+	{ A_PIDS_LIMIT, "max", "max", 0 },
+	{ A_PIDS_LIMIT, "4194304", "4194304", 0 },
+	{ A_PIDS_LIMIT, "4194305", NULL, EINVAL },
+	{ A_PIDS_LIMIT, "-1", NULL, EINVAL },
+	{ A_PIDS_LIMIT, "9223372036854775808", NULL, ERANGE },
+	{ A_PIDS_LIMIT, "", NULL, EINVAL },
+	{ A_PIDS_LIMIT, "5x", NULL, EINVAL },
+	{ A_PIDS_LIMIT, "5 5", NULL, EINVAL },
+	{ A_PIDS_LIMIT, "010", "8", 0 },
+	{ A_PIDS_LIMIT, "08", NULL, EINVAL },
+	{ A_PIDS_LIMIT, "0x1f", "31", 0 },
+	{ A_PIDS_LIMIT, "0X1F", "31", 0 },
+	{ A_PIDS_LIMIT, "0x", NULL, EINVAL },
+	{ A_PIDS_LIMIT, "0xg", NULL, EINVAL },
+	{ A_PIDS_LIMIT, "+5", "5", 0 },
+	{ A_PIDS_LIMIT, "+-5", NULL, EINVAL },
+	{ A_PIDS_LIMIT, "-+5", NULL, EINVAL },
+	{ A_PIDS_LIMIT, "-0", "0", 0 },
+	{ A_PIDS_LIMIT, "-0x0", "0", 0 },
+	{ A_PIDS_LIMIT, "\v5\f", "5", 0 },
+	{ A_PIDS_LIMIT, "\2405\n\n", "5", 0 },
+	{ A_ONE, "1", "1", 0 },
+	{ A_ONE, "0", NULL, ERANGE },
+	{ A_ONE, "2", NULL, ERANGE },
+	{ A_SWITCH, "0", "0", 0 },
+	{ A_SWITCH, "1", "1", 0 },
+	{ A_SWITCH, "2", NULL, ERANGE },
+	{ NO_CHANGE, " domain\n", "domain", 0 },
+	{ NO_CHANGE, "1234567890123456789012345", NULL, EOPNOTSUPP },
+	{ NOTHING, "1", NULL, EINVAL },
+	{ WRITES, "1", NULL, EINVAL },
+};
+
+static void what_the_kernel_reads(void)
+{
+	static char page[4097] = "7";
+	char said[SAID_MAX];
+	for (size_t i = 0; i < sizeof readings / sizeof *readings; i++) {
+		const struct reading *it = &readings[i];
+		int error = -written_value(it->value, it->data, strlen(it->data), said);
+		CHECK(error == it->error && (error != 0 || strcmp(said, it->said) == 0), "%s: %d", it->data, error);
+	}
+	memset(page + 1, ' ', sizeof page - 1);
+	CHECK(written_value(A_PIDS_LIMIT, page, sizeof page - 1, said) == 0 && strcmp(said, "7") == 0, "a page");
+	CHECK(written_value(A_PIDS_LIMIT, page, sizeof page, said) == -E2BIG, "more than a page");
+	CHECK(written_value(A_PIDS_LIMIT, "7\0x", 3, said) == 0 && strcmp(said, "7") == 0, "what follows a zero byte");
+	CHECK(written_value(A_PIDS_LIMIT, "71", 1, said) == 0 && strcmp(said, "7") == 0, "a part of a text");
 }
 
 static void random_values(void)
@@ -165,7 +237,8 @@ static void others(void)
 	CHECK(put("/a", "pids.current", "1", 1) == EINVAL && info.code == MK_DIRECTION &&
 			put("/a", "cpu.stat", "", 1) == EINVAL,
 		"files that are read");
-	CHECK(put("/a", "cgroup.freeze", "0\n", 1) == 0 && put("/a", "cgroup.freeze", "1", 1) == EOPNOTSUPP, "a constant");
+	CHECK(put("/a", "cgroup.type", "domain\n", 1) == 0 && put("/a", "cgroup.type", "threaded", 1) == EOPNOTSUPP,
+		"a constant");
 	CHECK(put("/", "cgroup.subtree_control", "+pids\n", 1) == 0 &&
 			put("/", "cgroup.subtree_control", "+memory", 1) == EOPNOTSUPP,
 		"another");
@@ -187,7 +260,7 @@ static void others(void)
 	for (size_t at = 1; at < 4096; at += 2)
 		memcpy(path + at, "x/", 3);
 	path[4096] = 0;
-	CHECK(put(name, "pids.max", "1", 1) == ENAMETOOLONG && info.code == MK_PATH &&
+	CHECK(put(name, "pids.max", "1", 1) == ENOENT && info.code == MK_PATH &&
 			put(path, "cgroup.type", "domain", 1) == ENAMETOOLONG && info.code == MK_PATH,
 		"a group whose name or path is too long");
 	CHECK(put("/a b", "pids.max", "x", 1) == ENOENT && info.code == MK_PATH &&
@@ -208,6 +281,7 @@ int main(void)
 		mk_attach(&h, "/a", 2, &info) != MK_DONE)
 		return 2;
 	table();
+	what_the_kernel_reads();
 	values();
 	random_values();
 	if (mk_undo_to(&h, 2, &info) != MK_DONE)

@@ -169,7 +169,8 @@ CALL(peak, mk_peak(&h, LONG, &value, &info))
 CALL(limit, mk_limit(&h, LONG, &value, &info))
 CALL(put_limit, mk_put(&h, LONG, "pids.max", "0x10", 4, 1, &info))
 CALL(put_self, mk_put(&h, LONG, "cgroup.procs", "0", 1, 3, &info))
-CALL(put_constant, mk_put(&h, LONG, "cgroup.freeze", "0", 1, 1, &info))
+CALL(put_constant, mk_put(&h, LONG, "cgroup.type", "domain", 6, 1, &info))
+CALL(put_freeze, mk_put(&h, LONG, "cgroup.freeze", "1", 1, 1, &info))
 CALL(fail, mk_fail(&h, LONG, 1, EIO, &info))
 CALL(vanish, mk_vanish(&h, LONG, 1, &info))
 CALL(read_one, mk_read(&h, LONG, "cgroup.procs", (char *)out, sizeof out, &info))
@@ -411,6 +412,8 @@ static const struct call calls[] = {
 		.keeps = vanished_in_part, .partly = true },
 	{ "mk_put, vanishing", .plan = plan_vanish, .make = put_limit, .status = MK_REFUSED, .gives = is_missing,
 		.records = VANISHED, .keeps = vanished_in_part, .partly = true },
+	/* the last one: an undo doesn't thaw */
+	{ "mk_put, the freezer", .make = put_freeze },
 };
 
 static size_t size;

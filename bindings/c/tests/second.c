@@ -203,6 +203,7 @@ CALL(by_many, mk_read_many(it, "/a\0pids.max", 1, &one_text, text, OUT, &info))
 CALL(by_wait_file, mk_wait_file(it, "/a", "pids.max", "", MK_FOREVER, text, OUT, &info))
 CALL(by_fail, mk_fail(it, "/a", 1, EIO, &info))
 CALL(by_vanish, mk_vanish(it, "/a", 1, &info))
+CALL(by_get, mk_get(it, "/a", "cgroup.type", text, OUT, &info))
 CALL(by_put, mk_put(it, "/a", "pids.max", "5", 1, 1, &info))
 #define ROW(name)   \
 	{               \
@@ -215,7 +216,7 @@ static const struct {
 	ROW(by_children), ROW(by_subtree), ROW(by_has_group), ROW(by_mkdir), ROW(by_rmdir), ROW(by_fork), ROW(by_exit),
 	ROW(by_attach), ROW(by_write), ROW(by_kill), ROW(by_read), ROW(by_where), ROW(by_current), ROW(by_peak),
 	ROW(by_limit), ROW(by_populated), ROW(by_processes), ROW(by_many), ROW(by_wait_file), ROW(by_fail), ROW(by_vanish),
-	ROW(by_put) };
+	ROW(by_get), ROW(by_put) };
 
 static int closed(void)
 {

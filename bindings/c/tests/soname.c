@@ -81,6 +81,7 @@ int main(void)
 	CALL(mk_vanish, uint32_t, mk_handle *, const char *, uint64_t, mk_info *);
 	CALL(mk_clear_faults, uint32_t, mk_handle *, size_t *);
 	CALL(mk_file_at, const mk_file *, size_t);
+	CALL(mk_get, uint32_t, mk_handle *, const char *, const char *, char *, size_t, mk_info *);
 	CALL(mk_put, uint32_t, mk_handle *, const char *, const char *, const char *, size_t, int64_t, mk_info *);
 	CALL(mk_path_errno, int, uint32_t);
 	CALL(mk_path_fault, uint32_t, const uint8_t *, size_t, size_t *);

@@ -204,29 +204,36 @@ static bool root_has(const char *file)
 
 /* Those of a mount that a hierarchy has not are here by hand. */
 static const mk_file added[] = { { "cgroup.controllers", true, true, false, "pids\n" },
-	{ "cgroup.freeze", false, true, true, "0\n" }, { "cgroup.subtree_control", true, true, true, "pids\n" },
-	{ "cgroup.type", false, true, true, "domain\n" },
+	{ "cgroup.freeze", false, true, true, NULL }, { "cgroup.subtree_control", true, true, true, "pids\n" },
+	{ "cgroup.threads", true, true, false, NULL }, { "cgroup.type", false, true, true, "domain\n" },
 	{ "cpu.stat", true, true, false, "usage_usec 0\nuser_usec 0\nsystem_usec 0\n" } };
+
+static bool has_text(const mk_file *it, const char *constant)
+{
+	return constant == NULL ? it->constant == NULL : it->constant != NULL && strcmp(it->constant, constant) == 0;
+}
 
 static int files(void)
 {
 	const mk_file *it;
-	size_t count = 0, constants = 0;
+	size_t count = 0, more = 0;
 	for (; (it = mk_file_at(count)) != NULL; count++) {
 		CHECK(count == 0 || strcmp(mk_file_at(count - 1)->name, it->name) < 0);
-		if (it->constant != NULL) {
-			const mk_file *want = &added[constants++];
-			CHECK(strcmp(it->name, want->name) == 0 && strcmp(it->constant, want->constant) == 0 &&
-				it->on_root == want->on_root && it->readable == want->readable && it->writable == want->writable);
+		const mk_file *want = more < sizeof added / sizeof *added ? &added[more] : NULL;
+		if (want != NULL && strcmp(it->name, want->name) == 0) {
+			more++;
+			CHECK(has_text(it, want->constant) && it->on_root == want->on_root && it->readable == want->readable &&
+				it->writable == want->writable);
 			continue;
 		}
+		CHECK(it->constant == NULL);
 		uint32_t status = mk_read(&h, "/a", it->name, text, sizeof text, &info);
 		CHECK(it->readable == (status == MK_DONE) && (it->readable || info.code == MK_DIRECTION));
 		CHECK(root_has(it->name) == (it->on_root && it->readable));
 		status = mk_write(&h, "/a", it->name, "x", &info);
 		CHECK(status == MK_FAULT && info.code == (it->writable ? MK_VALUE : MK_DIRECTION));
 	}
-	CHECK(count == 16 && constants == sizeof added / sizeof *added && mk_file_at(count + 1) == NULL &&
+	CHECK(count == 17 && more == sizeof added / sizeof *added && mk_file_at(count + 1) == NULL &&
 		mk_file_at(SIZE_MAX) == NULL);
 	return 0;
 }
@@ -276,8 +283,7 @@ static bool is_refused(const char *file, const char *data, size_t size, int erro
 /* As in the mount a constant takes its current value or nothing, with the kernel's blanks around it, up to a zero byte. */
 static int constants(void)
 {
-	static const char *const each[][2] = { { "cgroup.freeze", "0" }, { "cgroup.subtree_control", "+pids" },
-		{ "cgroup.type", "domain" } };
+	static const char *const each[][2] = { { "cgroup.subtree_control", "+pids" }, { "cgroup.type", "domain" } };
 	static const char blanks[] = " \t\r\n\v\f\xa0", others[] = "1x+_\b\x1f\x9f\xa1";
 	static char page[4097];
 	memset(page, ' ', sizeof page);

@@ -73,8 +73,8 @@ static int values(void)
 /* the longest path */
 static char *deepest(void)
 {
-	char *path = text_of("", 'n', 4095, "");
-	for (size_t i = 0; i < 4095; i += 256)
+	char *path = text_of("", 'n', PATH_BYTES, "");
+	for (size_t i = 0; i < PATH_BYTES; i += NAME_BYTES + 1)
 		path[i] = '/';
 	return path;
 }
@@ -87,7 +87,7 @@ static int order(void)
 	TEXT deep = deepest();
 	for (size_t i = 0; i < LENGTHS; i++)
 		for (size_t j = 0; j < LENGTHS; j++) {
-			TEXT path = text_of("/a/", 'x', lengths[i] + 256, "");
+			TEXT path = text_of("/a/", 'x', lengths[i] + NAME_BYTES + 1, "");
 			TEXT file = text_of("pids.max", 'x', lengths[j], "");
 			TEXT value = text_of("5", '5', lengths[j] + 6, "");
 			CHECK(fault(mk_write(&h, path, file, value, &info), MK_PATH) &&
@@ -123,11 +123,11 @@ static int order(void)
 static int longest(void)
 {
 	char text[64];
-	TEXT name = text_of("/", 'n', 255, "");
+	TEXT name = text_of("/", 'n', NAME_BYTES, "");
 	CHECK(done(mk_mkdir(&h, name, &info)) && done(mk_rmdir(&h, name, &info)));
 	TEXT deep = deepest();
-	for (size_t i = 256; i <= 4095; i += 256) {
-		char *end = deep + (i < 4095 ? i : 4095), was = *end;
+	for (size_t i = NAME_BYTES + 1; i <= PATH_BYTES; i += NAME_BYTES + 1) {
+		char *end = deep + (i < PATH_BYTES ? i : PATH_BYTES), was = *end;
 		*end = 0;
 		CHECK(done(mk_mkdir(&h, deep, &info)));
 		*end = was;

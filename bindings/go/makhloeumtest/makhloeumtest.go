@@ -13,14 +13,14 @@ import (
 	"makhloeum"
 )
 
-// New makes a hierarchy that is closed when the test t ends. It ends the test if there is no memory.
+// New makes a hierarchy that is closed when the test t ends, if the test hasn't closed it. It ends the test if there is no memory.
 func New(t testing.TB) *makhloeum.Hierarchy {
 	t.Helper()
 	h, err := makhloeum.New()
 	if err != nil {
 		t.Fatal(err)
 	}
-	t.Cleanup(h.Close)
+	t.Cleanup(func() { h.Close() }) // the error is that the test closed it
 	return h
 }
 

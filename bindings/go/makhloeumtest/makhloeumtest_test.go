@@ -21,3 +21,14 @@ func TestAHierarchyIsClosedAtTheEndOfItsTest(t *testing.T) {
 		t.Error(err)
 	}
 }
+
+func TestATestMayCloseItsHierarchy(t *testing.T) {
+	passed := t.Run("inner", func(t *testing.T) {
+		if err := makhloeumtest.New(t).Close(); err != nil {
+			t.Error(err)
+		}
+	})
+	if !passed {
+		t.Error("the second Close failed the test")
+	}
+}

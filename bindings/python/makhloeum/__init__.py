@@ -20,11 +20,19 @@ needs. It calls libmakhloeum.so by ctypes. The library is looked for at MAKHLOEU
 leaves it, and then where the system keeps libraries.
 """
 
+from os import path as _path
+
 from . import _interrupts, errors  # noqa: F401
 from ._library import library as _c
 from .errors import *  # noqa: F401, F403
 from .hierarchy import Hierarchy
 from .mounted import mounted_at
+
+# In a checkout the packages page and check are beside their tests, in look. Installed, they are in this package.
+_HERE = _path.dirname(_path.realpath(__file__))
+_LOOK = _path.normpath(_path.join(_HERE, "..", "..", "..", "look"))
+if not _path.isdir(_path.join(_HERE, "check")) and _path.isfile(_path.join(_LOOK, "check", "__init__.py")):
+    __path__.append(_LOOK)  # noqa: F405
 
 # the library's, which a wheel brings along
 __version__: str = _c.mk_version().decode()

@@ -18,13 +18,13 @@ from typing import Any, Callable, TextIO
 
 from . import __version__
 from ._interrupts import ended_by_interrupt
-from ._output import _nobody_reads
+from ._output import writes
 from ._table import FILES
 from .errors import NothingToUndo, Refused
 from .hierarchy import Hierarchy
-from .look.tree import drawn_for, of_hierarchy
+from .page.tree import drawn_for, of_hierarchy
 
-COMMANDS = {"view": "makhloeum.look.view", "tree": "makhloeum.look.tree", "check": "makhloeum.check"}
+COMMANDS = {"view": "makhloeum.page.view", "tree": "makhloeum.page.tree", "check": "makhloeum.check"}
 
 
 class Shell(cmd.Cmd):
@@ -60,10 +60,10 @@ class Shell(cmd.Cmd):
                 intro = ""
 
     def parseline(self, line: str) -> tuple[str | None, str | None, str]:
-        """The command, its words, and the line. A command is the first word between blanks, not the first letters."""
+        """The command, its words, and the line. A command is the first word between blanks, not the first letters: cmd would take a `?`
+        there for help, which the trace language refuses."""
         line = line.strip()
-        spelled = f"help {line[1:]}" if line.startswith("?") else line
-        name, _, words = spelled.replace("\t", " ").partition(" ")
+        name, _, words = line.replace("\t", " ").partition(" ")
         return (name, words.strip(), line) if line else (None, None, line)
 
     def onecmd(self, line: str) -> bool:
@@ -87,6 +87,7 @@ class Shell(cmd.Cmd):
             readline.parse_and_bind("tab: complete")
         self.stdout.write(f"{intro}\n" if intro else "")
         while True:
+            self.stdout.flush()  # input() would drop a failure
             try:
                 line = input(self.prompt)
             except EOFError:
@@ -244,6 +245,11 @@ def check() -> int:
 def main(arguments: list[str]) -> int:
     if arguments and arguments[0] in COMMANDS:
         return command(arguments[0], arguments[1:])
+    return _shell(arguments)
+
+
+@writes("makhloeum")
+def _shell(arguments: list[str]) -> int:
     if arguments[:1] in (["-h"], ["--help"]):
         print((__doc__ or "").strip())
         return 0
@@ -251,15 +257,12 @@ def main(arguments: list[str]) -> int:
         print(f"makhloeum {__version__}")
         return 0
     with Hierarchy() as h:
-        shell = Shell(h)
+        shell = Shell(h, sys.stdout)
         if not arguments and sys.stdin.isatty():
             shell.loop(f"Makhloeum {__version__}. help lists the commands.")
             return 0
         try:
             any(run_script(shell, file) for file in arguments or ["-"])
-            sys.stdout.flush()
-        except BrokenPipeError:
-            return _nobody_reads()
         except OSError as failure:
             print(f"makhloeum: {failure}", file=sys.stderr)
             return 1

@@ -10,11 +10,13 @@ import builtins
 import errno
 import io
 import os
+import re
 import threading
 from typing import Any, Callable, Iterator
 
-from . import _audit
-from ._descriptors import Descriptors, Shared, at_position, scatter
+from . import _audit, _names
+from ._descriptors import Shared
+from ._fd_calls import DescriptorCalls
 from ._replace import Place, Replacement
 from ._table import TEXT_MAX
 from ._tree import Node, RawFile, Tree, error
@@ -35,17 +37,25 @@ _SERVED = (
         "close",
         "closerange",
     ),
-    *("fstat", "stat", "lstat", "access", "listdir", "scandir", "mkdir", "rmdir", "readlink"),
+    *("fstat", "stat", "lstat", "access", "listdir", "scandir", "mkdir", "rmdir", "symlink", "readlink", "truncate"),
+    *("ftruncate",),
 )
 _REFUSED = {
-    **dict.fromkeys(("unlink", "remove", "rename", "replace", "link", "symlink"), errno.EPERM),
-    **dict.fromkeys(("mknod", "mkfifo"), errno.EACCES),
     **dict.fromkeys(("getxattr", "setxattr", "listxattr", "removexattr"), errno.EOPNOTSUPP),
     **dict.fromkeys(("chdir", "fchdir", "chroot", "statvfs", "fstatvfs", "pathconf", "fpathconf"), errno.EOPNOTSUPP),
 }
-_MADE = ("mknod", "mkfifo")
-_TWO_PATHS = ("rename", "replace", "link", "symlink")
-_WITHOUT_EFFECT = ("chmod", "lchmod", "fchmod", "chown", "lchown", "fchown", "utime", "truncate", "ftruncate")
+_WITHOUT_EFFECT = ("chmod", "lchmod", "fchmod", "chown", "lchown", "fchown", "utime")
+_OF_TWO_NAMES = {"rename": _names.rename, "replace": _names.rename, "link": _names.link}
+_SYNCS = ("fsync", "fdatasync")
+_OF_A_NAME: dict[str, Callable[..., None]] = {
+    "unlink": _names.unlink,
+    "remove": _names.unlink,
+    "mkfifo": _names.mkfifo,
+    "mknod": _names.mknod,
+}
+# Functions that take a symbolic link for itself.
+_OF_LINKS = (*_OF_TWO_NAMES, *_OF_A_NAME, "lchmod", "lchown")
+_LINK = re.compile(r"(?:/proc/(?P<process>self|thread-self|\d+)(?:/task/\d+)?|/dev)/fd/(?P<fd>\d+)")
 
 
 class _Entry:
@@ -99,12 +109,11 @@ class _Scan:
         self._entries = iter(())
 
 
-class Calls:
+class Calls(DescriptorCalls):
     def __init__(self) -> None:
+        super().__init__()
         self._mounts: list[tuple[str, Tree]] = []
         self._lock = threading.RLock()
-        self.descriptors = Descriptors()
-        self.was: dict[str, Callable[..., Any]] = {}
         self._replacement = Replacement(self._places(), self.was)
         os.register_at_fork(after_in_child=self._begin_again)
 
@@ -118,9 +127,9 @@ class Calls:
             Place(os, "open", "os_open", self.os_open),
         ]
         places += [Place(os, name, name, getattr(self, name)) for name in _SERVED if hasattr(os, name)]
-        return places + [
-            Place(os, name, name, self.other(name)) for name in (*_REFUSED, *_WITHOUT_EFFECT) if hasattr(os, name)
-        ]
+        places += [Place(os, name, name, self.of_two_names(name)) for name in _OF_TWO_NAMES]
+        others = (*_REFUSED, *_WITHOUT_EFFECT, *_SYNCS, *_OF_A_NAME)
+        return places + [Place(os, name, name, self.other(name)) for name in others if hasattr(os, name)]
 
     def mount(self, at: str, tree: Tree) -> None:
         with self._lock:
@@ -162,26 +171,61 @@ class Calls:
     def _at(self, tree: Tree) -> str:
         return next((at for at, it in self._mounts if it is tree), "")
 
-    def node(self, path: Any, dir_fd: int | None = None) -> Node | None:
-        """What the path or descriptor names, which may not exist; None for what is elsewhere."""
+    def node(self, path: Any, dir_fd: int | None = None, follows: bool = True) -> Node | None:
+        """What the path or descriptor names, which may not exist; None for what is elsewhere. It follows links such as
+        /proc/self/fd/5 to what is served, unless the caller takes links for themselves."""
         if isinstance(path, int):
             opened = self.descriptors.get(path)
             return opened.node if isinstance(opened, RawFile) else opened
         shown = os.fsdecode(path)
+        if "\0" in shown:
+            raise ValueError("embedded null byte")
         name = shown
+        number = _number_of(shown) if follows and shown.startswith(("/proc/", "/dev/")) else None
+        linked = None if number is None else self.node(number)
+        if linked is not None:
+            return Node(linked.tree, linked.group, linked.file, shown)
         if not name.startswith("/"):
             base = self.descriptors.get(dir_fd)
             if dir_fd is not None and base is None:
                 return None
-            if isinstance(base, RawFile):
+            if not name:
+                raise error(errno.ENOENT, shown)
+            if base is not None and (isinstance(base, RawFile) or base.file is not None):
                 raise error(errno.ENOTDIR, shown)
+            if base is not None and base.gone:
+                return _in_removed(base, name, shown)
             name = os.path.join(os.getcwd() if base is None else self._at(base.tree) + base.group, name)
-        below = self._below(name)
+        return self._found(name, shown)
+
+    def _found(self, name: str, shown: str) -> Node | None:
+        below = self._below(self._without_dots(name, shown))
         if below is None:
             return None
         if len(os.fsencode(shown)) > TEXT_MAX:  # the kernel's own bound, before it looks up any name
             raise error(errno.ENAMETOOLONG, shown)
-        return below[0].locate(below[1], shown)
+        node = below[0].locate(below[1], shown)
+        node.is_folder = name.endswith(("/", "/."))
+        node.last = "" if below[1] == "/" else node.path.rpartition("/")[2]
+        last = name.rstrip("/").rpartition("/")[2]
+        if last in (".", ".."):
+            node.last = last
+        return node
+
+    def _without_dots(self, name: str, shown: str) -> str:
+        """The absolute path without `..`. It leads up from a group that exists."""
+        if "/.." not in name:
+            return name
+        at = ""
+        for part in name.split("/"):
+            if part == "..":
+                below = self._below(at or "/")
+                if below is not None:
+                    below[0].enter(below[1], shown)
+                at = at.rpartition("/")[0]
+            elif part not in ("", "."):
+                at += "/" + part
+        return at or "/"
 
     # ---- files
 
@@ -225,108 +269,25 @@ class Calls:
             return Shared(self.descriptors, file, closefd, file)
         if not closefd:
             raise ValueError("Cannot use closefd=False with file name")
-        reads, writes = "r" in mode or "+" in mode, any(letter in mode for letter in "wax+")
-        raw = self._opened(node, reads, writes, "w" in mode or "a" in mode, "x" in mode)
+        raw = self._opened(node, _flags(mode))
+        if isinstance(raw, Node):
+            raise error(errno.EISDIR, node.shown)
         return Shared(self.descriptors, self.descriptors.add(raw), True, node.shown)
 
-    def _opened(self, node: Node, reads: bool, writes: bool, makes: bool, alone: bool) -> RawFile:
-        if node.file is None and (makes or alone) and not node.tree.exists(node.group, node.shown):
-            node.tree.find(os.path.dirname(node.group), node.shown)
-            raise error(errno.EACCES, node.shown)
-        if alone:
-            node.check()
-            raise error(errno.EEXIST, node.shown)
-        return node.tree.open(node, reads, writes)
+    def _opened(self, node: Node, flags: int) -> Node | RawFile:
+        node = _names.open_node(node, flags)
+        if node.file is None or flags & os.O_PATH:
+            return node
+        way = flags & os.O_ACCMODE
+        return RawFile(node, way != os.O_WRONLY, way != os.O_RDONLY)
 
     def os_open(self, path: Any, flags: int, mode: int = 0o777, *, dir_fd: int | None = None) -> Any:
         node = self.node(path, dir_fd)
         if node is None:
             return self.was["os_open"](path, flags, mode, dir_fd=dir_fd)
-        way = flags & os.O_ACCMODE
-        opened: Node | RawFile = node
-        if flags & os.O_TMPFILE == os.O_TMPFILE:
-            raise error(errno.EOPNOTSUPP, node.shown)
-        if node.file is None and way == os.O_RDONLY and not flags & os.O_CREAT:
-            node.check()
-        elif flags & os.O_DIRECTORY:
-            node.check()
-            raise error(errno.EISDIR if node.file is None else errno.ENOTDIR, node.shown)
-        else:
-            makes = bool(flags & os.O_CREAT)
-            opened = self._opened(
-                node, way != os.O_WRONLY, way != os.O_RDONLY, makes, makes and bool(flags & os.O_EXCL)
-            )
-        return self.descriptors.add(opened)
+        return self.descriptors.add(self._opened(node, flags))
 
-    # ---- descriptors
-
-    def read(self, fd: int, size: int) -> Any:
-        return (
-            self.was["read"](fd, size)
-            if self.descriptors.get(fd) is None
-            else self.descriptors.raw(fd).read(size) or b""
-        )
-
-    def readv(self, fd: int, buffers: Any) -> Any:
-        if self.descriptors.get(fd) is None:
-            return self.was["readv"](fd, buffers)
-        return scatter(self.descriptors.raw(fd), buffers)
-
-    def pread(self, fd: int, size: int, offset: int) -> Any:
-        if self.descriptors.get(fd) is None:
-            return self.was["pread"](fd, size, offset)
-        raw = self.descriptors.raw(fd)
-        return at_position(raw, offset, lambda: raw.read(size) or b"")
-
-    def preadv(self, fd: int, buffers: Any, offset: int, flags: int = 0) -> Any:
-        if self.descriptors.get(fd) is None:
-            return self.was["preadv"](fd, buffers, offset, flags)
-        raw = self.descriptors.raw(fd)
-        return at_position(raw, offset, lambda: scatter(raw, buffers))
-
-    def write(self, fd: int, data: Any) -> Any:
-        return self.was["write"](fd, data) if self.descriptors.get(fd) is None else self.descriptors.raw(fd).write(data)
-
-    def writev(self, fd: int, buffers: Any) -> Any:
-        if self.descriptors.get(fd) is None:
-            return self.was["writev"](fd, buffers)
-        return self.descriptors.raw(fd).write(b"".join(buffers))  # one write, as in the kernel
-
-    def pwrite(self, fd: int, data: Any, offset: int) -> Any:
-        if self.descriptors.get(fd) is None:
-            return self.was["pwrite"](fd, data, offset)
-        raw = self.descriptors.raw(fd)
-        return at_position(raw, offset, lambda: raw.write(data))
-
-    def pwritev(self, fd: int, buffers: Any, offset: int, flags: int = 0) -> Any:
-        if self.descriptors.get(fd) is None:
-            return self.was["pwritev"](fd, buffers, offset, flags)
-        raw = self.descriptors.raw(fd)
-        return at_position(raw, offset, lambda: raw.write(b"".join(buffers)))
-
-    def lseek(self, fd: int, offset: int, whence: int) -> Any:
-        if self.descriptors.get(fd) is None:
-            return self.was["lseek"](fd, offset, whence)
-        return self.descriptors.raw(fd).seek(offset, whence)
-
-    def dup(self, fd: int) -> Any:
-        opened = self.descriptors.get(fd)
-        return self.was["dup"](fd) if opened is None else self.descriptors.add(opened)
-
-    def dup2(self, fd: int, fd2: int, inheritable: bool = True) -> Any:
-        if self.descriptors.get(fd) is None:
-            to = self.was["dup2"](fd, fd2, inheritable)
-            self.descriptors.forget(fd2)
-            return to
-        return fd2 if fd == fd2 else self.descriptors.onto(fd, fd2, inheritable)
-
-    def close(self, fd: int) -> None:
-        self.descriptors.forget(fd)
-        self.was["close"](fd)
-
-    def closerange(self, fd_low: int, fd_high: int) -> None:
-        self.descriptors.forget_all(fd_low, fd_high)
-        self.was["closerange"](fd_low, fd_high)
+    # ---- descriptors, besides those of DescriptorCalls
 
     def fstat(self, fd: int) -> Any:
         node = self.node(fd) if isinstance(fd, int) else None
@@ -335,11 +296,11 @@ class Calls:
     # ---- paths
 
     def stat(self, path: Any, *, dir_fd: int | None = None, follow_symlinks: bool = True) -> Any:
-        node = self.node(path, dir_fd)
+        node = self.node(path, dir_fd, follow_symlinks)
         return self.was["stat"](path, dir_fd=dir_fd, follow_symlinks=follow_symlinks) if node is None else node.stat()
 
     def lstat(self, path: Any, *, dir_fd: int | None = None) -> Any:
-        node = self.node(path, dir_fd)
+        node = self.node(path, dir_fd, False)
         return self.was["lstat"](path, dir_fd=dir_fd) if node is None else node.stat()
 
     def access(self, path: Any, mode: int, *, dir_fd: int | None = None, **more: Any) -> Any:
@@ -374,43 +335,109 @@ class Calls:
         return _Scan(entries)
 
     def mkdir(self, path: Any, mode: int = 0o777, *, dir_fd: int | None = None) -> Any:
-        node = self.node(path, dir_fd)
+        node = self.node(path, dir_fd, False)
         if node is None:
             return self.was["mkdir"](path, mode, dir_fd=dir_fd)
-        node.tree.mkdir(node.path, node.shown)
+        _names.mkdir(node)
 
     def rmdir(self, path: Any, *, dir_fd: int | None = None) -> Any:
-        node = self.node(path, dir_fd)
+        node = self.node(path, dir_fd, False)
         if node is None:
             return self.was["rmdir"](path, dir_fd=dir_fd)
-        node.tree.rmdir(node.path, node.shown)
+        _names.rmdir(node)
 
     def readlink(self, path: Any, *, dir_fd: int | None = None) -> Any:
-        node = self.node(path, dir_fd)
+        node = self.node(path, dir_fd, False)
         if node is None:
+            linked = self.node(path, dir_fd)
+            if linked is not None:
+                return _as(path, self._at(linked.tree) + linked.path.rstrip("/"))[0]
             return self.was["readlink"](path, dir_fd=dir_fd)
         node.check()
         raise error(errno.EINVAL, node.shown)
+
+    def truncate(self, path: Any, length: int) -> Any:
+        if isinstance(path, int):
+            return self.ftruncate(path, length)
+        if length < 0:  # before any name is looked up
+            raise error(errno.EINVAL, os.fsdecode(path))
+        node = self.node(path)
+        if node is None:
+            return self.was["truncate"](path, length)
+        node.check()
+        if node.file is None:
+            raise error(errno.EISDIR, node.shown)
+
+    def ftruncate(self, fd: int, length: int) -> Any:
+        """The text of a file stays as it is, but the descriptor has to be one for writing."""
+        opened = self.descriptors.get(fd)
+        if opened is None:
+            return self.was["ftruncate"](fd, length)
+        if length < 0 or isinstance(opened, Node) or not opened.writable():
+            raise error(errno.EINVAL, str(fd))
 
     def other(self, name: str) -> Callable[..., Any]:
         """A function that a mount refuses, or that does nothing there."""
 
         def call(*words: Any, **more: Any) -> Any:
-            one = more.get("dir_fd")
-            fds = [more.get("src_dir_fd"), more.get("dst_dir_fd", one)] if name in _TWO_PATHS else [one]
-            given = [*words, *(more[key] for key in ("path", "fd", "src", "dst") if key in more)]
-            nodes = [self.node(word, fd) for word, fd in zip(given, fds)]
-            if not any(nodes):
+            given = [*words, *(more[key] for key in ("path", "fd") if key in more)]
+            node = self.node(given[0], more.get("dir_fd"), name not in _OF_LINKS)
+            if node is None:
                 return self.was[name](*words, **more)
-            if nodes[0] is not None and name in _MADE:
-                self._opened(nodes[0], False, False, True, True)
-            elif nodes[0] is not None and name != "symlink":  # whose first path is a text that nobody looks up
-                nodes[0].check()
+            if name in _OF_A_NAME:
+                kind = [*words[1:2], *(more[key] for key in ("mode",) if key in more)] if name == "mknod" else []
+                return _OF_A_NAME[name](node, *kind)
+            node.check()
+            if name in _SYNCS and node.file is None:
+                raise error(errno.EINVAL, str(given[0]))
             if name in _REFUSED:
                 raise error(_REFUSED[name], str(given[0]) if isinstance(given[0], int) else os.fsdecode(given[0]))
             return None
 
         return call
+
+    def of_two_names(self, name: str) -> Callable[..., Any]:
+        def call(
+            src: Any, dst: Any, *, src_dir_fd: int | None = None, dst_dir_fd: int | None = None, **more: Any
+        ) -> Any:
+            node = self.node(src, src_dir_fd, False)
+            if node is not None:  # before the other path is looked at
+                node.check() if name == "link" else _names.enter_parent(node)
+            to = self.node(dst, dst_dir_fd, False)
+            if node is None and to is None:
+                return self.was[name](src, dst, src_dir_fd=src_dir_fd, dst_dir_fd=dst_dir_fd, **more)
+            if node is None:
+                self.was["lstat"](src if name == "link" else os.path.dirname(src) or os.curdir, dir_fd=src_dir_fd)
+            elif to is None:
+                self.was["lstat"](os.path.dirname(dst) or os.curdir, dir_fd=dst_dir_fd)
+            return _OF_TWO_NAMES[name](node, to)
+
+        return call
+
+    def symlink(self, src: Any, dst: Any, target_is_directory: bool = False, *, dir_fd: int | None = None) -> Any:
+        """A link from elsewhere would not be followed."""
+        node = self.node(dst, dir_fd, False)
+        if node is None and self._covers(os.fsdecode(src)):
+            raise error(errno.EPERM, os.fsdecode(dst))
+        if node is None:
+            return self.was["symlink"](src, dst, target_is_directory, dir_fd=dir_fd)
+        return _names.symlink(node)
+
+
+def _in_removed(base: Node, name: str, shown: str) -> Node:
+    """What a path in a removed group names: only the group itself is there."""
+    if not set(name.split("/")) <= {"", "."}:
+        raise error(errno.ENOENT, shown)
+    node = Node(base.tree, base.group, None, shown)
+    node.last, node.gone = ".", True
+    return node
+
+
+def _number_of(name: str) -> int | None:
+    """The descriptor of this process that such a path links to."""
+    link = _LINK.fullmatch(name)
+    is_own = link is not None and link["process"] in (None, "self", "thread-self", str(os.getpid()))
+    return int(link["fd"]) if link is not None and is_own else None
 
 
 def _as(given: Any, *names: str) -> tuple[Any, ...]:

@@ -38,6 +38,8 @@ class Descriptors:
         fd = _number_to_poll(opened)
         fd = _real_open(os.devnull, os.O_PATH | os.O_CLOEXEC) if fd is None else fd
         self._opened[fd] = opened
+        if isinstance(opened, Node):
+            opened.tree.add(opened)
         return fd
 
     def onto(self, fd: int, to: int, inheritable: bool) -> int:
@@ -77,10 +79,10 @@ class Descriptors:
                 _real_dup2(number, fd, os.get_inheritable(fd))
                 _real_close(number)
 
-    def raw(self, fd: int) -> RawFile:
+    def raw(self, fd: int, writes: bool = False) -> RawFile:
         opened = self._opened[fd]
-        if isinstance(opened, Node):
-            raise error(errno.EISDIR, opened.shown)
+        if isinstance(opened, Node):  # no group is open for writing
+            raise error(errno.EBADF if writes or opened.file is not None else errno.EISDIR, opened.shown)
         return opened
 
 

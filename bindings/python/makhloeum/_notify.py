@@ -59,11 +59,11 @@ class Poller:
             self._ends[1].send(b"!", socket.MSG_OOB)
 
     def take(self, text: bytes) -> None:
-        """The file was read."""
+        """The file was read. Of its text the engine doesn't know whether the group is frozen."""
         with self._lock:
             if self._ended:
                 return
-            self._seen = text
+            self._seen = text.replace(b"frozen 1", b"frozen 0")
             if self._ready and self._ends is not None:
                 # before Linux 6.10 a byte that was taken fills the socket until the next recv; a signal handler may have taken it
                 for kind in (socket.MSG_OOB, 0):
@@ -80,6 +80,15 @@ class Poller:
             words = (*self._words, self._seen, 0, text, _TEXT_BYTES)
             status = patient.mk_wait_file(h._at, *words, ctypes.byref(info))
             if status in (DONE, REFUSED, TOO_SMALL):
+                self._ready = True
+                self._tell()
+
+    def tell(self, group: str) -> None:
+        """The group was frozen or thawed: tells it if the file is that of the group or of one below it."""
+        own, file = self._words
+        above = group.encode("utf-8", "surrogateescape")
+        with self._lock:
+            if file == b"cgroup.events" and not self._ready and (own + b"/").startswith(above + b"/"):
                 self._ready = True
                 self._tell()
 
@@ -143,6 +152,10 @@ class Watch:
     def look(self) -> None:
         for poller in self._added():
             poller.look(self._h)
+
+    def tell(self, group: str) -> None:
+        for poller in self._added():
+            poller.tell(group)
 
     def _follow(self) -> None:
         seen = 0

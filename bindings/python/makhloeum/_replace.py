@@ -4,6 +4,7 @@ from __future__ import annotations
 
 import glob
 import os
+import threading
 from typing import Any, Callable, NamedTuple
 
 # os says in these sets which functions take a descriptor, a dir_fd and the like
@@ -18,30 +19,39 @@ class Place(NamedTuple):
 
 
 class Replacement:
-    """The functions that were replaced are in `was`."""
+    """The functions that ours call for what isn't served are in `was`."""
 
     def __init__(self, places: list[Place], was: dict[str, Callable[..., Any]]) -> None:
         self._places, self.was = places, was
         # somebody else's patch that stood over a function of ours when it was to be taken away, so that ours stays below it
         self._above: dict[tuple[Any, str], Any] = {}
+        # what ours are over, without patches that are over ours; and what stood in each place when ours came there
+        self._base: dict[str, Callable[..., Any]] = {}
+        self._stood: dict[str, Callable[..., Any]] = {}
         self._bound: list[tuple[type, str, Any]] = []
 
     def put(self) -> None:
         for place in self._places:
-            current = getattr(place.module, place.name)
-            if current is place.function or self._above.get((place.module, place.name)) is current:
+            current, above = getattr(place.module, place.name), self._above.get((place.module, place.name))
+            if current is place.function:
+                self._stood[place.key] = self._base[place.key]
+            elif above is None:
+                self._stood[place.key] = self._base[place.key] = self.was[place.key] = current
+            elif above is not current:
+                self._stood[place.key] = current
+                self.was[place.key] = _once(current, self._base[place.key])
+            else:
                 continue
-            self.was[place.key] = current
             setattr(place.module, place.name, place.function)
         for place in self._places:
             for names in _SETS:
-                if self.was[place.key] in names:
+                if self._base[place.key] in names:
                     names.add(place.function)
         self._put_bound()
 
     def _put_bound(self) -> None:
         """From Python 3.13 on pathlib calls functions of os that classes of glob have as static methods."""
-        functions = {id(self.was[place.key]): place.function for place in self._places}
+        functions = {id(self._base[place.key]): place.function for place in self._places}
         for kind in [it for it in vars(glob).values() if isinstance(it, type)]:
             for name, value in list(vars(kind).items()):
                 if isinstance(value, staticmethod) and id(value.__func__) in functions:
@@ -55,9 +65,27 @@ class Replacement:
         for place in self._places:
             for names in _SETS:
                 names.discard(place.function)
-            current = getattr(place.module, place.name)
-            if current is place.function:
-                setattr(place.module, place.name, self.was[place.key])
-                self._above.pop((place.module, place.name), None)
+            there = getattr(place.module, place.name)
+            if there is place.function:
+                setattr(place.module, place.name, self._stood[place.key])
+                self.was[place.key] = self._base[place.key]
+                if self._stood[place.key] is self._base[place.key]:
+                    self._above.pop((place.module, place.name), None)
             else:
-                self._above[place.module, place.name] = current
+                self._above[place.module, place.name] = there
+
+
+def _once(function: Callable[..., Any], below: Callable[..., Any]) -> Callable[..., Any]:
+    """Calls a patch that may be over ours: a call that comes back goes on to what ours are over."""
+    calls = threading.local()
+
+    def once(*words: Any, **more: Any) -> Any:
+        if getattr(calls, "inside", False):
+            return below(*words, **more)
+        calls.inside = True
+        try:
+            return function(*words, **more)
+        finally:
+            calls.inside = False
+
+    return once

@@ -13,11 +13,11 @@ import weakref
 import zlib
 from typing import Any, Iterator
 
-from ._library import DONE, FAILED, FAULT, REFUSED, Info, library
+from ._library import DONE, FAILED, FAULT, REFUSED, Info, library, patient
 from ._notify import Poller, Watch
 from ._table import NOTIFIED
-from ._words import _raise
-from .errors import BadPath, NameTooLong, NoGroup, PathTooLong
+from ._words import _c_text, _raise
+from .errors import BadPath, NoGroup, PathTooLong
 from .hierarchy import Hierarchy
 
 _DEVICE = 0x6D6B0001
@@ -45,7 +45,13 @@ def error(number: int, path: str) -> OSError:
 
 
 class Node:
-    """A group, or a file of a group, that existed at the time of the look."""
+    """A group, or a file of a group, that may not be there. `last` is the last name of the path, which can be `.` or `..`, and
+    `is_folder` says that a slash is after it. Of a descriptor, `gone` says that the group was removed."""
+
+    last = ""
+    is_folder = False
+    gone = False
+    position = 0
 
     def __init__(self, tree: Tree, group: str, file: Any, shown: str) -> None:
         self.tree, self.group, self.file, self.shown = tree, group, file, shown
@@ -55,33 +61,71 @@ class Node:
     def text(self) -> bytes:
         if not self.file.readable:
             raise error(errno.EINVAL, self.shown)
-        if self.file.constant is not None:
-            self.check()
-            return bytes(self.file.constant)
-        with as_mount(self.shown):
-            return self.tree.h.read(self.group, self.file.name).encode()
+        with self.as_mount():
+            words = _c_text(self.group), self.file.name
+            is_long = self.name in ("cgroup.procs", "cgroup.threads")
+            return self.tree.h._told("mk_get", words, f"read {self.shown}", self.group, is_long)
 
     def check(self) -> None:
-        """Raises FileNotFoundError if the group is missing."""
-        with as_mount(self.shown):
+        """Raises what a look-up of the path raises."""
+        if self.gone:
+            return
+        with self.as_mount():
             if not self.tree.h.has_group(self.group):
                 raise error(errno.ENOENT, self.shown)
+        if self.is_folder and self.file is not None:
+            raise error(errno.ENOTDIR, self.shown)
+
+    def exists(self) -> bool:
+        """Whether there is a group or a file of that name in its parent, which exists."""
+        try:
+            with self.as_mount():
+                return self.tree.h.has_group(self.group)
+        except FileNotFoundError:
+            return False
+
+    @contextlib.contextmanager
+    def as_mount(self) -> Iterator[None]:
+        """The errno of a mount, and the path that the caller gave."""
+        try:
+            yield
+        except PathTooLong:  # the caller may give only its last name
+            raise error(errno.ENAMETOOLONG, self.shown) from None
+        except BadPath:
+            raise error(errno.ENOENT, self.shown) from None
+        except OSError as refused:
+            raise error(refused.errno, self.shown) from None
 
     def children(self) -> list[str]:
-        with as_mount(self.shown):
+        with self.as_mount():
             return self.tree.h.children(self.group)
 
     def names(self) -> list[str]:
         if self.file is not None:
             self.check()
             raise error(errno.ENOTDIR, self.shown)
+        if self.gone:
+            return []
         return [name for name, file in FILES.items() if file.on_root or self.group != "/"] + self.children()
 
+    def seek(self, offset: int, whence: int = os.SEEK_SET) -> int:
+        """Of a file the end is that of its text; of a group it is 0, and each listing begins at the first name."""
+        end = self.stat().st_size if whence == os.SEEK_END else 0
+        bases = {os.SEEK_SET: 0, os.SEEK_CUR: self.position, os.SEEK_END: end}
+        position = offset + bases.get(whence, 0)
+        if position < 0 or whence not in bases:
+            raise error(errno.EINVAL, self.shown)
+        self.position = position
+        return position
+
     def stat(self) -> os.stat_result:
+        if self.is_folder and self.file is not None:
+            self.check()
         if self.file is None:
-            mode, links, size = stat.S_IFDIR | 0o755, 2 + len(self.children()), 0
+            mode, links, size = stat.S_IFDIR | 0o755, 2 + (0 if self.gone else len(self.children())), 0
         elif self.file.readable:
-            mode, links, size = stat.S_IFREG | (0o644 if self.file.writable else 0o444), 1, len(self.text())
+            mode, links = stat.S_IFREG | (0o644 if self.file.writable else 0o444), 1
+            size = 0 if self.gone else len(self.text())
         else:
             self.check()
             mode, links, size = stat.S_IFREG | 0o200, 1, 0
@@ -90,17 +134,8 @@ class Node:
         return os.stat_result((mode, number, _DEVICE, links, os.getuid(), os.getgid(), size, *_TIMES), _MORE)
 
 
-@contextlib.contextmanager
-def as_mount(shown: str) -> Iterator[None]:
-    """The errno of a mount, and the path that the caller gave."""
-    try:
-        yield
-    except (NameTooLong, PathTooLong):
-        raise error(errno.ENAMETOOLONG, shown) from None
-    except BadPath:
-        raise error(errno.ENOENT, shown) from None
-    except OSError as refused:
-        raise error(refused.errno, shown) from None
+# Each tree that is mounted: several may be of one hierarchy.
+_TREES: weakref.WeakSet[Tree] = weakref.WeakSet()
 
 
 class Tree:
@@ -109,71 +144,74 @@ class Tree:
 
     def __init__(self, h: Hierarchy, pid: int) -> None:
         self.h, self.pid = h, pid
-        self._opened: set[weakref.ref[RawFile]] = set()
+        self._opened: set[weakref.ref[Node]] = set()
         self.watch = Watch(h)
+        _TREES.add(self)
 
-    def add(self, file: RawFile) -> None:
-        """A file was opened."""
-        self._opened.add(weakref.ref(file, self._opened.discard))
+    def add(self, node: Node) -> None:
+        """A group or a file was opened."""
+        self._opened.add(weakref.ref(node, self._opened.discard))
 
-    def _opened_files(self) -> list[RawFile]:
-        """Other threads may open files meanwhile."""
-        return [file for it in list(self._opened) if (file := it()) is not None]
+    # ---- look-ups
 
-    def locate(self, group: str, shown: str) -> Node:
+    def locate(self, path: str, shown: str) -> Node:
         """The group or file of that path, as "/a/pids.max", which may not be there."""
-        parent, _, name = group.rpartition("/")
+        parent, _, name = path.rpartition("/")
         file = FILES.get(name)
-        if parent.rpartition("/")[2] in FILES:
-            raise error(errno.ENOTDIR, shown)
+        if any(above in FILES for above in parent.split("/")):
+            self.enter(parent, shown)
         if file is not None and (file.on_root or parent):
             return Node(self, parent or "/", file, shown)
-        return Node(self, group, None, shown)
+        return Node(self, path, None, shown)
 
-    def find(self, group: str, shown: str) -> Node:
-        node = self.locate(group, shown)
-        node.check()
-        return node
+    def _has_group(self, group: str) -> bool:
+        """Faults don't count this call: a text that differs from the empty one is returned at once."""
+        text, info = ctypes.create_string_buffer(64), Info()
+        words = (_c_text(group), b"cgroup.stat", b"", 0, text, len(text), ctypes.byref(info))
+        return bool(patient.mk_wait_file(self.h._at, *words) == DONE)
 
-    def exists(self, group: str, shown: str) -> bool:
+    def enter(self, path: str, shown: str) -> None:
+        """Raises what a look-up that goes through that path raises, unless it is a group: the first name that isn't one decides."""
+        at = ""
+        for name in filter(None, path.split("/")):
+            file = FILES.get(name)
+            if file is not None and (file.on_root or at):
+                raise error(errno.ENOTDIR, shown)
+            at += "/" + name
+            if not self._has_group(at):
+                raise error(errno.ENOENT, shown)
+
+    # ---- calls
+
+    def mkdir(self, node: Node) -> None:
+        if node.file is not None:
+            raise error(errno.EEXIST if node.exists() else errno.ENOENT, node.shown)
         try:
-            self.find(group, shown)
-        except OSError:
-            return False
-        return True
-
-    def mkdir(self, group: str, shown: str) -> None:
-        if self.locate(group, shown).file is not None:
-            self.find(group, shown)
-            raise error(errno.EEXIST, shown)
-        try:
-            self.h.mkdir(group)
+            self.h.mkdir(node.group)
         except BadPath as refused:
-            self.find(group.rpartition("/")[0] or "/", shown)
-            raise error(library.mk_path_errno(refused.fault), shown) from None
+            self.enter(node.group.rpartition("/")[0], node.shown)
+            raise error(library.mk_path_errno(refused.fault), node.shown) from None
         except OSError as refused:
-            raise error(refused.errno, shown) from None
+            raise error(refused.errno, node.shown) from None
         self.watch.look()
 
-    def rmdir(self, group: str, shown: str) -> None:
-        node = self.locate(group, shown)
+    def rmdir(self, node: Node) -> None:
         if node.file is not None:
             node.check()
-            raise error(errno.ENOTDIR, shown)
-        with as_mount(shown):
-            self.h.rmdir(group)
-        for file in self._opened_files():
-            file.gone = file.gone or file.node.group == group
+            raise error(errno.ENOTDIR, node.shown)
+        with node.as_mount():
+            self.h.rmdir(node.group)
+        for opened in [
+            it for ref in list(self._opened) if (it := ref()) is not None
+        ]:  # other threads may open files meanwhile
+            opened.gone = opened.gone or opened.group == node.group
         self.watch.look()
 
-    def open(self, node: Node, reads: bool, writes: bool) -> RawFile:
-        """As in the kernel, the superuser can open a file against its mode, and then gets an error from the read or write."""
-        node.check()
-        if node.file is None:
-            raise error(errno.EISDIR, node.shown)
-        if os.geteuid() != 0 and ((reads and not node.file.readable) or (writes and not node.file.writable)):
-            raise error(errno.EACCES, node.shown)
-        return RawFile(node, reads, writes)
+    def freeze(self, group: str) -> None:
+        """cgroup.freeze of the group was written: it is no change of the hierarchy, for which `watch` waits."""
+        for tree in list(_TREES):
+            if tree.h is self.h:
+                tree.watch.tell(group)
 
 
 class RawFile(io.RawIOBase):
@@ -181,11 +219,10 @@ class RawFile(io.RawIOBase):
 
     def __init__(self, node: Node, reads: bool, writes: bool) -> None:
         self.node, self._reads, self._writes = node, reads, writes
-        self._text, self._position, self._read_to = b"", 0, -1
+        self._text, self._read_to = b"", -1
         self.name, self.mode = node.shown, ("rb+" if writes else "rb") if reads else "wb"
-        self.gone = False
         self.poller = Poller(node.group, node.name) if node.name in NOTIFIED else None
-        node.tree.add(self)
+        node.tree.add(node)
         if self.poller is not None:
             node.tree.watch.add(self.poller)
 
@@ -204,27 +241,21 @@ class RawFile(io.RawIOBase):
         return True
 
     def seek(self, offset: int, whence: int = os.SEEK_SET) -> int:
-        end = len(self._text) if self._read_to >= 0 else 0
-        bases = {os.SEEK_SET: 0, os.SEEK_CUR: self._position, os.SEEK_END: end}
-        position = offset + bases.get(whence, 0)
-        if position < 0 or whence not in bases:
-            raise error(errno.EINVAL, self.name)
-        self._position = position
-        return position
+        return self.node.seek(offset, whence)
 
     def tell(self) -> int:
-        return self._position
+        return self.node.position
 
     def truncate(self, size: int | None = None) -> int:
         """Does nothing, as in the kernel."""
-        return self._position if size is None else size
+        return self.node.position if size is None else size
 
     def _current(self) -> bytes:
         try:
-            text = b"" if self.gone else self.node.text()
+            text = b"" if self.node.gone and self.node.file.readable else self.node.text()
         except FileNotFoundError:
-            self.gone, text = True, b""
-        if self.poller is not None and not self.gone:
+            self.node.gone, text = True, b""
+        if self.poller is not None and not self.node.gone:
             self.poller.take(text)
         return text
 
@@ -232,14 +263,14 @@ class RawFile(io.RawIOBase):
         if not self._reads:
             raise error(errno.EBADF, self.name)
         # a read that starts where the one before it ended continues that one's text
-        if self._position == 0 or self._position != self._read_to:
+        if self.node.position == 0 or self.node.position != self._read_to:
             self._text = self._current()
-            if self.gone:
+            if self.node.gone and self.node.file.readable:
                 raise error(errno.ENODEV, self.name)
-        part = self._text[self._position : self._position + len(buffer)]
+        part = self._text[self.node.position : self.node.position + len(buffer)]
         buffer[: len(part)] = part
-        self._position += len(part)
-        self._read_to = self._position
+        self.node.position += len(part)
+        self._read_to = self.node.position
         return len(part)
 
     def write(self, data: Any) -> int:
@@ -248,11 +279,13 @@ class RawFile(io.RawIOBase):
         data = bytes(data)
         if not data:
             return 0
-        number = errno.ENODEV if self.gone else self._put(data)
+        number = errno.EINVAL if not self.node.file.writable else errno.ENODEV if self.node.gone else self._put(data)
         if number != 0:
             raise error(number, self.name)
         self.node.tree.watch.look()
-        self._position += len(data)
+        if self.node.name == "cgroup.freeze":
+            self.node.tree.freeze(self.node.group)
+        self.node.position += len(data)
         return len(data)
 
     def _put(self, data: bytes) -> int:
@@ -266,6 +299,6 @@ class RawFile(io.RawIOBase):
         if status not in (DONE, REFUSED, FAULT, FAILED):
             _raise(status, f"write {self.name}")
         if info.code == NoGroup.code:
-            self.gone = True
+            self.node.gone = True
             return errno.ENODEV
         return int(info.error)

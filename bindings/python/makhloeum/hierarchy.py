@@ -9,7 +9,7 @@ import warnings
 from typing import Any, Callable, NoReturn
 
 from ._changes import Changes
-from ._faults import Faults
+from ._fault_injection import Faults
 from ._library import (
     ANSWER_MAX,
     CLOSED,

@@ -9,6 +9,7 @@ import tempfile
 import pytest
 
 from makhloeum import mounted_at
+from makhloeum._table import NAME_MAX, TEXT_MAX
 
 AT = "/sys/fs/cgroup"
 NAMES = {errno.EOPNOTSUPP: "EOPNOTSUPP"}  # it has two
@@ -234,6 +235,26 @@ def test_a_file_that_is_open_in_one_way(h, real, flags, call):
         os.close(fd)
 
 
+@pytest.mark.parametrize(
+    "mode, more",
+    [
+        *((mode, {}) for mode in ("", "rw", "x+a", "rr", "rbt", "z", "+", "b", "U")),
+        *(("rb", {name: word}) for name, word in (("encoding", "utf-8"), ("errors", "strict"), ("newline", ""))),
+        ("r", {"buffering": 0}),
+        ("r", {"newline": "x"}),
+        ("r", {"encoding": "none"}),
+        ("r", {"closefd": False}),
+    ],
+)
+def test_words_that_open_does_not_take(h, real, mode, more):
+    kinds = []
+    for top in (AT, real):
+        with pytest.raises((ValueError, LookupError)) as refused:
+            open(f"{top}/a/pids.max", mode, **more)
+        kinds.append(refused.type)
+    assert kinds[0] == kinds[1]
+
+
 # ---- paths beside a descriptor of a folder
 
 
@@ -264,6 +285,18 @@ def test_names_beside_a_descriptor(h, real):
     assert code(os.stat, "a", dir_fd=fd) == "EBADF"
 
 
+def test_a_removed_folder_is_still_the_one_of_its_descriptor(h, real):
+    for top in (AT, real):
+        os.mkdir(f"{top}/b")
+        fd = os.open(f"{top}/b", os.O_RDONLY)
+        number = os.fstat(fd).st_ino
+        os.rmdir(f"{top}/b")
+        assert os.fstat(fd).st_ino == os.stat(".", dir_fd=fd).st_ino == os.lstat("./", dir_fd=fd).st_ino == number
+        assert number != os.stat(top).st_ino and os.access(".", os.R_OK, dir_fd=fd)
+        assert code(os.stat, "b", dir_fd=fd) == code(os.mkdir, "b", dir_fd=fd) == "ENOENT"
+        os.close(fd)
+
+
 def test_a_file_is_no_folder(h, real):
     for top in (AT, real):
         fd = os.open(f"{top}/a/pids.max", os.O_RDONLY)
@@ -275,14 +308,28 @@ def test_a_file_is_no_folder(h, real):
         os.close(fd)
 
 
+@pytest.mark.parametrize("name", ["a\0", "\0", "a\0/pids.max", "a/pids.max\0x", "none/../\0"])
+def test_a_name_with_a_null_byte(h, real, name):
+    for top in (AT, real):
+        path = f"{top}/{name}"
+        for call in (os.stat, os.listdir, os.mkdir, os.rmdir, os.unlink, os.readlink, open, os.scandir):
+            for word in (path, os.fsencode(path)):
+                with pytest.raises(ValueError, match="^embedded null byte$"):
+                    call(word)
+        for words in ((path, f"{top}/a"), (f"{top}/a", path)):
+            with pytest.raises(ValueError, match="^embedded null byte$"):
+                os.rename(*words)
+        assert not os.path.exists(path) and not pathlib.Path(path).exists()
+
+
 def test_two_paths_beside_descriptors(h, real):
     served, folder = os.open(f"{AT}/a", os.O_RDONLY), os.open(real, os.O_RDONLY)
     for call in (os.rename, os.replace, os.link):
-        assert code(call, "pids.max", "x", src_dir_fd=served, dst_dir_fd=folder) == "EPERM"
-        assert code(call, "a/pids.max", "x", src_dir_fd=folder, dst_dir_fd=served) == "EPERM"
+        assert code(call, "pids.max", "x", src_dir_fd=served, dst_dir_fd=folder) == "EXDEV"
+        assert code(call, "a/pids.max", "x", src_dir_fd=folder, dst_dir_fd=served) == "EXDEV"
     assert code(os.symlink, "elsewhere", "x", dir_fd=served) == code(os.unlink, "pids.max", dir_fd=served) == "EPERM"
     assert code(os.symlink, f"{AT}/none/none", "x", dir_fd=served) == "EPERM"  # nobody looks its text up
-    assert code(os.unlink, "none", dir_fd=served) == "ENOENT" and code(os.mkfifo, "x", dir_fd=served) == "EACCES"
+    assert code(os.unlink, "none", dir_fd=served) == "ENOENT" and code(os.mkfifo, "x", dir_fd=served) == "EPERM"
     os.rename("a/pids.max", "moved", src_dir_fd=folder, dst_dir_fd=folder)
     os.symlink("moved", "link", dir_fd=folder)
     assert os.readlink("link", dir_fd=folder) == "moved" and sorted(os.listdir(real)) == ["a", "link", "moved"]
@@ -304,9 +351,9 @@ def test_a_real_directory_has_the_mode_that_is_asked_for(h, real):
 REFUSED = [
     ("EPERM", os.unlink, ()),
     ("EPERM", os.remove, ()),
-    ("EPERM", os.rename, ("/tmp/x",)),
-    ("EPERM", os.replace, ("/tmp/x",)),
-    ("EPERM", os.link, ("/tmp/x",)),
+    ("EXDEV", os.rename, ("/tmp/x",)),
+    ("EXDEV", os.replace, ("/tmp/x",)),
+    ("EXDEV", os.link, ("/tmp/x",)),
     ("EOPNOTSUPP", os.getxattr, ("user.x",)),
     ("EOPNOTSUPP", os.setxattr, ("user.x", b"1")),
     ("EOPNOTSUPP", os.listxattr, ()),
@@ -326,8 +373,11 @@ def test_what_is_refused(h, number, early, more):
             number,
             f"{AT}/a/pids.max",
         )
-        assert told(call, kind(f"{AT}/a"), *more) == (number, f"{AT}/a")
-        assert code(call, kind(f"{AT}/none"), *more) == "ENOENT"
+        of_group = "EISDIR" if early.__name__ in ("unlink", "remove") else number
+        assert told(call, kind(f"{AT}/a"), *more) == (of_group, f"{AT}/a")
+        # of what is renamed to elsewhere only the parent is looked up
+        missing = "none/none" if number == "EXDEV" else "none"
+        assert code(call, kind(f"{AT}/{missing}"), *more) == "ENOENT"
     assert h.groups() == ["/", "/a"] and h.changes() == 1
 
 
@@ -336,7 +386,6 @@ WITHOUT_EFFECT = [
     (os.chown, (0, 0)),
     (os.lchown, (0, 0)),
     (os.utime, ()),
-    (os.truncate, (0,)),
 ]
 
 
@@ -347,6 +396,103 @@ def test_what_does_nothing(h, early, more):
     assert call(f"{AT}/a/pids.max", *more) is None and call(os.fsencode(f"{AT}/a"), *more) is None
     assert [os.stat(f"{AT}/a/pids.max"), os.stat(f"{AT}/a")] == before
     assert told(call, f"{AT}/none/pids.max", *more) == ("ENOENT", f"{AT}/none/pids.max")
+
+
+# Measured on a mount: the errno of a truncation by a path, and by a descriptor that was opened for reading, or for writing.
+TRUNCATED = {0: ("ok", "EINVAL", "ok"), 5: ("ok", "EINVAL", "ok"), -1: ("EINVAL", "EINVAL", "EINVAL")}
+
+
+@pytest.mark.parametrize("size", TRUNCATED)
+@pytest.mark.parametrize("name", ["pids.max", "pids.current", "cgroup.procs", "cgroup.kill"])
+def test_a_truncation_changes_nothing_and_has_the_errno_of_a_mount(h, name, size):
+    if os.geteuid() != 0:
+        pytest.skip("only the superuser opens each file for reading and writing")
+    path = f"{AT}/a/{name}"
+    by_path, for_reading, for_writing = TRUNCATED[size]
+    assert code(os.truncate, path, size) == code(os.truncate, os.fsencode(path), size) == by_path
+    for flags, wanted in ((os.O_RDONLY, for_reading), (os.O_WRONLY, for_writing), (os.O_RDWR, for_writing)):
+        fd = os.open(path, flags)
+        assert code(os.truncate, fd, size) == code(os.ftruncate, fd, size) == wanted
+        os.close(fd)
+    assert h.read("/a", "pids.max") == "max\n" and h.changes() == 1
+
+
+def test_a_group_is_not_truncated(h):
+    group = os.open(f"{AT}/a", os.O_RDONLY)
+    assert code(os.truncate, group, 0) == code(os.ftruncate, group, 0) == "EINVAL"
+    assert told(os.truncate, f"{AT}/a", 0) == ("EISDIR", f"{AT}/a")
+    assert told(os.truncate, f"{AT}/a", -1) == ("EINVAL", f"{AT}/a")
+    for name in ("none", "none/pids.max", "a/none"):
+        assert told(os.truncate, f"{AT}/{name}", 0) == ("ENOENT", f"{AT}/{name}")
+        assert code(os.truncate, f"{AT}/{name}", -1) == "EINVAL"
+    os.close(group)
+
+
+def test_a_file_of_a_removed_group_is_truncated(h):
+    reading, writing = os.open(f"{AT}/a/pids.max", os.O_RDONLY), os.open(f"{AT}/a/pids.max", os.O_RDWR)
+    os.rmdir(f"{AT}/a")
+    assert code(os.truncate, reading, 0) == "EINVAL" and code(os.truncate, writing, 0) == "ok"
+    os.close(reading)
+    os.close(writing)
+    assert code(os.truncate, writing, 0) == "EBADF"
+
+
+@pytest.mark.parametrize(
+    "link",
+    [*(f"/proc/{it}/fd" for it in ("self", "thread-self", os.getpid(), f"self/task/{os.getpid()}")), "/dev/fd"],
+)
+@pytest.mark.parametrize("name", ["a", "a/pids.max", "a/cgroup.procs", "a/pids.current"])
+def test_the_link_of_a_descriptor_names_its_file(h, link, name):
+    path = f"{AT}/{name}"
+    fd = os.open(path, os.O_RDONLY)
+    at = f"{link}/{fd}"
+    assert os.stat(at) == os.stat(path) == os.stat(os.fsencode(at)) and os.path.samefile(at, path)
+    assert os.access(at, os.R_OK) and os.path.isdir(at) == (name == "a")
+    assert stat.S_ISLNK(os.lstat(at).st_mode) and stat.S_ISLNK(os.stat(at, follow_symlinks=False).st_mode)
+    assert os.readlink(at) == os.path.realpath(at) == path and os.readlink(os.fsencode(at)) == os.fsencode(path)
+    if name == "a":
+        assert os.listdir(at) == os.listdir(path) and code(open, at) == "EISDIR"
+    else:
+        assert pathlib.Path(at).read_text() == pathlib.Path(path).read_text()
+        assert told(os.listdir, at) == ("ENOTDIR", at)
+    for call in (os.unlink, os.rmdir):
+        assert code(call, at) != "ok" and os.path.exists(path)
+    os.close(fd)
+    assert code(os.stat, at) == "ENOENT" and code(open, at) == "ENOENT"
+
+
+def test_links_of_other_files_are_as_before(h, real):
+    fd = os.open(f"{real}/a/pids.max", os.O_RDONLY)
+    for at in (f"/proc/self/fd/{fd}", f"/dev/fd/{fd}"):
+        assert os.path.samefile(at, f"{real}/a/pids.max") and pathlib.Path(at).read_text() == "max\n"
+    served = os.open(f"{AT}/a/pids.max", os.O_RDONLY)
+    for at in (f"/proc/1/fd/{served}", f"/proc/self/fd/{served}/x", f"/proc/self/fdinfo/{served}", "/proc/self/fd/x"):
+        assert not os.path.exists(at) or not os.path.samefile(at, f"{AT}/a/pids.max")
+    os.close(served)
+    os.close(fd)
+
+
+def test_the_link_of_a_descriptor_of_the_root_names_it(h):
+    fd = os.open(AT, os.O_RDONLY)
+    assert os.readlink(f"/proc/self/fd/{fd}") == AT and code(os.readlink, AT) == "EINVAL"
+    os.close(fd)
+
+
+@pytest.mark.parametrize("name", ["a", "a/pids.max", "a/pids.current", "a/cgroup.kill"])
+def test_a_touch_of_what_is_there(h, name):
+    """As on a mount: it is there already, and nothing is made."""
+    before = os.stat(f"{AT}/{name}")
+    assert pathlib.Path(f"{AT}/{name}").touch() is None and os.stat(f"{AT}/{name}") == before
+    assert code(pathlib.Path(f"{AT}/{name}").touch, exist_ok=False) == "EEXIST" and h.changes() == 1
+
+
+@pytest.mark.parametrize(
+    "name, wanted", [("b", "EACCES"), ("a/x", "EACCES"), ("b/x", "ENOENT"), ("a/pids.max/x", "ENOTDIR")]
+)
+def test_a_touch_makes_no_file(h, name, wanted):
+    for exist_ok in (True, False):
+        assert code(pathlib.Path(f"{AT}/{name}").touch, exist_ok=exist_ok) == wanted
+    assert h.groups() == ["/", "/a"]
 
 
 def test_calls_of_a_descriptor_that_do_nothing(h):
@@ -502,13 +648,13 @@ OF_A_PATH = ["stat", "lstat", "listdir", "scandir", "mkdir", "rmdir", "readlink"
 def test_a_long_path_of_short_names(h, real, call, name):
     more = {"chmod": (0o700,), "open": (os.O_RDONLY,)}.get(call, ())
     for top in (AT, real):
-        path = f"{top}/{name}" + f"/{name}" * (4096 // (len(name) + 1))
-        for long in (path, f"{path}/pids.max", f"{top}/".ljust(4096, "/")):
+        path = f"{top}/{name}" + f"/{name}" * ((TEXT_MAX + 1) // (len(name) + 1))
+        for long in (path, f"{path}/pids.max", f"{top}/".ljust(TEXT_MAX + 1, "/")):
             assert told(getattr(os, call), long, *more) == ("ENAMETOOLONG", long)
             assert told(open, long) == told(open, long, "w") == ("ENAMETOOLONG", long)
             assert not os.access(long, os.F_OK) and not os.path.exists(long)
         # one byte less
-        assert os.path.isdir(f"{top}/".ljust(4095, "/"))
+        assert os.path.isdir(f"{top}/".ljust(TEXT_MAX, "/"))
     assert h.groups() == ["/", "/a"]
 
 
@@ -516,14 +662,14 @@ def test_a_name_that_makes_the_path_of_a_group_too_long(h):
     """A path in the hierarchy has at most 4,095 bytes, also if the caller gives its last name alone."""
     fd = os.open(AT, os.O_RDONLY)
     for _ in range(15):
-        os.mkdir("x" * 255, dir_fd=fd)
-        above, fd = fd, os.open("x" * 255, os.O_RDONLY, dir_fd=fd)
+        os.mkdir("x" * NAME_MAX, dir_fd=fd)
+        above, fd = fd, os.open("x" * NAME_MAX, os.O_RDONLY, dir_fd=fd)
         os.close(above)
-    name = "y" * (4095 - 15 * 256 - 1)
+    name = "y" * (TEXT_MAX - 15 * (NAME_MAX + 1) - 1)
     for call in (os.stat, os.lstat, os.mkdir, os.rmdir, os.readlink, os.unlink):
         assert told(call, name + "y", dir_fd=fd) == ("ENAMETOOLONG", name + "y"), call
     assert told(os.open, name + "y", os.O_RDONLY, dir_fd=fd) == ("ENAMETOOLONG", name + "y")
     assert told(os.stat, name, dir_fd=fd) == ("ENOENT", name)
     assert os.mkdir(name, dir_fd=fd) is None and stat.S_ISDIR(os.stat(name, dir_fd=fd).st_mode)
-    assert len(h.groups()[-1]) == 4095
+    assert len(h.groups()[-1]) == TEXT_MAX
     os.close(fd)

@@ -8,6 +8,7 @@ import pytest
 
 import makhloeum
 from makhloeum import BadDirection, BadFile, BadPath, BadSyntax, BadValue, Hierarchy, NothingToUndo, PidsMax, Refused
+from makhloeum._table import SLOTS
 
 
 @pytest.fixture
@@ -77,13 +78,13 @@ def test_a_refusal(h, line, reply, number, kind):
 
 
 def test_no_more_groups_than_slots(h):
-    for number in range(1024):
+    for number in range(SLOTS):
         h.mkdir(f"/g{number}")
     with pytest.raises(makhloeum.NoSlot) as refused:
         h.mkdir("/one-more")
     assert refused.value.errno == errno.ENOSPC
-    assert h.children("/") == sorted(f"g{number}" for number in range(1024))
-    assert len(h.groups()) == 1025
+    assert h.children("/") == sorted(f"g{number}" for number in range(SLOTS))
+    assert len(h.groups()) == SLOTS + 1
 
 
 def test_a_counted_fork_is_taken_back(h):

@@ -8,6 +8,7 @@ from hypothesis import HealthCheck, settings  # noqa: E402
 from hypothesis import strategies as st  # noqa: E402
 from hypothesis.stateful import run_state_machine_as_test  # noqa: E402
 
+from makhloeum._table import PID_MAX, PIDS_LIMIT_MAX  # noqa: E402
 from makhloeum.strategies import HierarchyMachine, commands, limits, names, paths, pids  # noqa: E402
 
 MANY = settings(
@@ -28,13 +29,13 @@ def is_drawn(strategy, wanted):
     "strategy, drawn, never",
     [
         (pids(5), [lambda it: it == 1, lambda it: it == 5], [lambda it: it < 1, lambda it: it > 5]),
-        (pids(), [lambda it: it > 100000], [lambda it: not 1 <= it <= 4194303]),
+        (pids(), [lambda it: it > 100000], [lambda it: not 1 <= it <= PID_MAX]),
         (
             limits(3),
             [lambda it: it == "0", lambda it: it == "3", lambda it: it == "max"],
             [lambda it: it not in ("max", "0", "1", "2", "3")],
         ),
-        (limits(), [lambda it: len(it) > 5], [lambda it: it != "max" and not 0 <= int(it) <= 4194304]),
+        (limits(), [lambda it: len(it) > 5], [lambda it: it != "max" and not 0 <= int(it) <= PIDS_LIMIT_MAX]),
         (names(3), [lambda it: len(it) == 1, lambda it: len(it) == 3], [lambda it: not 1 <= len(it) <= 3]),
         (
             names(),

@@ -13,6 +13,7 @@ import pytest
 import makhloeum
 from makhloeum import BadByte, BadFile, BadPath, BadValue, Hierarchy, NoGroup, Refused
 from makhloeum._library import BUSY, CLOSED, OUT_OF_MEMORY, TIMED_OUT, TOO_SMALL, library
+from makhloeum._table import DEPTH_MAX, NAME_MAX, PID_MAX, TEXT_MAX
 
 
 def test_type_checkers_find_every_error():
@@ -114,9 +115,9 @@ def test_limits_of_the_hierarchy_block_as_a_real_mkdir_does(h):
         ("/a/", makhloeum.EmptyName, 3),
         ("/.", makhloeum.DotName, 1),
         ("/a/pids.x", makhloeum.ReservedName, 3),
-        ("/" + "x" * 256, makhloeum.NameTooLong, 1),
-        ("/x" * 33, makhloeum.TooDeep, 65),
-        ("/" + "x" * 4095, makhloeum.PathTooLong, 4095),
+        ("/" + "x" * (NAME_MAX + 1), makhloeum.NameTooLong, 1),
+        ("/x" * (DEPTH_MAX + 1), makhloeum.TooDeep, 2 * DEPTH_MAX + 1),
+        ("/" + "x" * TEXT_MAX, makhloeum.PathTooLong, TEXT_MAX),
     ],
 )
 def test_the_fault_of_a_path_and_its_place(h, path, kind, position):
@@ -188,7 +189,7 @@ def test_no_word_leaks_into_another(h):
     assert before == (h.depth(), h.groups(), h.read("/a", "pids.max"), h.read("/b", "pids.max"), h.where(2))
 
 
-@pytest.mark.parametrize("pid", [0, -1, 4194304, 2**31, 2**64, 2**64 + 1, -(2**64)])
+@pytest.mark.parametrize("pid", [0, -1, PID_MAX + 1, 2**31, 2**64, 2**64 + 1, -(2**64)])
 def test_numbers_that_are_no_pid(h, pid):
     for call in (
         h.exit,
@@ -365,4 +366,4 @@ def test_a_buffer_does_not_grow_beyond_the_longest_answer(h, monkeypatch, name):
     with pytest.raises(RuntimeError, match=f"^{command}: unexpected status 3 of the library: the buffer is too small$"):
         call(h)
     assert sizes == sorted(set(sizes)) and len(sizes) < 30
-    assert sizes[-2] <= 32 + 10 * 4194303 <= sizes[-1] < 2 * (32 + 10 * 4194303)
+    assert sizes[-2] <= 32 + 10 * PID_MAX <= sizes[-1] < 2 * (32 + 10 * PID_MAX)

@@ -9,7 +9,7 @@ import pytest
 
 import makhloeum.__main__ as program
 from makhloeum.__main__ import Shell
-from makhloeum.look import tree, view
+from makhloeum.page import tree, view
 
 # by hand: the words of each command, and what it does
 COMMANDS = {
@@ -43,9 +43,6 @@ def test_the_help_of_a_command(shell, name):
 
 def test_the_list_of_commands_says_how_one_learns_more(shell):
     shell.onecmd("help")
-    assert shell.stdout.getvalue().startswith("\nCommands (help COMMAND says more):\n=====")
-    shell.stdout = io.StringIO()
-    shell.onecmd("?")
     assert shell.stdout.getvalue().startswith("\nCommands (help COMMAND says more):\n=====")
 
 

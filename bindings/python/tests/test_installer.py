@@ -16,7 +16,7 @@ FILES = {
     "lib/pkgconfig/makhloeum.pc": "prefix=@PREFIX@\nlibdir=${prefix}/lib\n",
     "share/man/man1/tool.1": ".TH TOOL 1\n",
     "share/makhloeum/python/makhloeum/__init__.py": "",
-    "share/makhloeum/python/makhloeum/look/page.py": "",
+    "share/makhloeum/python/makhloeum/page/page.py": "",
 }
 LINK, LIST = "lib/liby.so", "share/makhloeum/installed"
 ALL = sorted([*FILES, LINK, LIST])
@@ -36,9 +36,9 @@ def archive(tmp_path):
     return at
 
 
-def run(archive, name, *words, cwd=None):
+def run(archive, name, *words, cwd=None, **environment):
     how = {"cwd": cwd or archive, "capture_output": True, "text": True, "timeout": 60}
-    ran = subprocess.run([archive / name, *words], umask=0o077, **how)
+    ran = subprocess.run([archive / name, *words], umask=0o077, env=dict(os.environ, **environment), **how)
     return ran.returncode, ran.stdout, ran.stderr
 
 
@@ -76,13 +76,29 @@ def test_where_it_is_installed(archive, tmp_path, words, top, prefix):
     assert there(tmp_path) == there_of_the_archive(archive)
 
 
+def test_an_installation_that_fails_says_so(archive, tmp_path):
+    (tmp_path / "file").write_text("")
+    (tmp_path / "folder" / "bin" / "tool" / "in_the_way").mkdir(parents=True)
+    for prefix in ("file/below", "folder"):
+        status, out, error = run(archive, "install", "--prefix", prefix, cwd=tmp_path)
+        assert status != 0 and out == "" and error.count("\n") >= 1, prefix
+    tools = tmp_path / "tools"
+    tools.mkdir()
+    for way in ("-cf", "-xf"):
+        (tools / "tar").write_text(f'#!/bin/sh\n"{shutil.which("tar")}" "$@"\n[ "$1" != {way} ]\n')
+        (tools / "tar").chmod(0o755)
+        path = f"{tools}:{os.environ['PATH']}"
+        status, out, _ = run(archive, "install", "--prefix", "p", cwd=tmp_path, PATH=path)
+        assert status != 0 and out == "", way
+
+
 def there_of_the_archive(archive):
     return [f"archive/{name}" for name in there(archive)]
 
 
 @pytest.mark.parametrize("name", ["install", "uninstall"])
 def test_words_that_are_none(archive, tmp_path, name):
-    usage = f"usage: ./{name} [--prefix DIR] [--destdir DIR]\n"
+    usage = f"usage: ./{name} [--prefix DIR] [--destdir DIR]{' [--unproved]' if name == 'install' else ''}\n"
     before = there(tmp_path)
     for words in (["--prefix"], ["--destdir"], ["--prefix", str(tmp_path / "p"), "--destdir"], ["--wrong"], ["x"]):
         assert run(archive, name, *words) == (2, "", usage), words
@@ -108,7 +124,7 @@ def test_what_is_not_of_the_installation_stays(archive, tmp_path):
     top = tmp_path / "p"
     run(archive, "install", "--prefix", str(top))
     python = top / "share" / "makhloeum" / "python" / "makhloeum"
-    for folder in (python, python / "look"):
+    for folder in (python, python / "page"):
         (folder / "__pycache__").mkdir()
         (folder / "__pycache__" / "x.pyc").write_text("")
     (top / "lib" / "other.so").write_text("")
@@ -119,3 +135,13 @@ def test_what_is_not_of_the_installation_stays(archive, tmp_path):
     assert os.listdir(top / "share") == ["man"] and os.listdir(top / "lib") == ["other.so"]
     again = run(archive, "uninstall", "--prefix", str(top))
     assert again == (1, "", f"uninstall: nothing is installed in {top}\n")
+
+
+@pytest.mark.parametrize("name", ["bin/tool", "lib/libmakhloeum.so.1.0.0", "lib/libmakhloeum.a"])
+def test_what_was_made_without_proofs_is_installed_only_if_asked(archive, tmp_path, name):
+    (archive / "tree" / name).write_bytes(b"\x7fELF\0tool 1.0.0 without proofs\n\0")
+    status, _, said = run(archive, "install", "--prefix", tmp_path / "p")
+    assert (status, there(tmp_path / "p")) == (1, [])
+    assert said.startswith(f"install: {os.path.basename(name)} was made without proofs")
+    assert run(archive, "install", "--prefix", tmp_path / "p", "--unproved")[0] == 0
+    assert name in there(tmp_path / "p")

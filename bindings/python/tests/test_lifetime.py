@@ -163,7 +163,7 @@ def test_the_version_is_that_of_the_library_and_the_header():
 
     program = os.path.join(os.path.dirname(makhloeum.__file__), "..", "..", "version")
     version = subprocess.run([program], capture_output=True, text=True, check=True).stdout.strip()
-    assert makhloeum.__version__ == version
+    assert makhloeum.__version__ in (version, f"{version} without proofs")
     # the calls are declared for this soname
     assert _library._NAME == f"libmakhloeum.so.{version.split('.')[0]}"
 

@@ -146,7 +146,7 @@ def test_after_an_interrupt_the_process_ends_by_the_signal():
         "def main(words):\n    try:\n        os.kill(os.getpid(), signal.SIGINT)\n    finally:\n        print('cleaned up', flush=True)\n"
         "ended_by_interrupt(main, [])\nprint('went on')\n"
     )
-    ran = subprocess.run(
-        [sys.executable, "-c", script], env=dict(os.environ, PYTHONPATH=str(PYTHON)), capture_output=True, text=True
-    )
+    # a shell's background ignores the interrupt
+    words = ["env", "--default-signal=INT", sys.executable, "-c", script]
+    ran = subprocess.run(words, env=dict(os.environ, PYTHONPATH=str(PYTHON)), capture_output=True, text=True)
     assert (ran.returncode, ran.stdout, ran.stderr) == (-signal.SIGINT, "cleaned up\n", "")

@@ -15,9 +15,10 @@ import threading
 import pytest
 
 from makhloeum import Hierarchy, mounted_at
+from makhloeum._table import DEPTH_MAX, NAME_MAX
 
 AT = "/sys/fs/cgroup"
-THE_MOUNT = pathlib.Path(__file__).parents[3] / "mount" / "tests" / "files.py"
+THE_MOUNT = pathlib.Path(__file__).parents[3] / "mount" / "tests" / "files" / "files.py"
 REPLACED = [
     (io, "open"),
     *(
@@ -102,8 +103,8 @@ def test_the_files_are_those_of_the_mount(h):
     os.mkdir(at("a"))
     constants = OF_THE_MOUNT["CONSTANTS"]
     on_root = [name for name in constants if name not in ("cgroup.type", "cgroup.freeze")]
-    assert sorted(os.listdir(AT)) == sorted([*OF_THE_MOUNT["ROOT"], *on_root, "a"])
-    assert sorted(os.listdir(at("a"))) == sorted([*OF_THE_MOUNT["GROUP"], *constants])
+    assert sorted(os.listdir(AT)) == sorted([*OF_THE_MOUNT["ROOT"], *on_root, "cgroup.threads", "a"])
+    assert sorted(os.listdir(at("a"))) == sorted([*OF_THE_MOUNT["GROUP"], *constants, "cgroup.threads"])
     for name, text in {**OF_THE_MOUNT["FRESH"], **constants}.items():
         assert read(at("a", name)) == text, name
         assert os.stat(at("a", name)).st_size == len(text)
@@ -136,10 +137,10 @@ def test_the_errno_of_groups_are_those_of_the_mount(h, as_user):
         ("EINVAL", os.mkdir, at("pids.x")),
         ("EINVAL", os.mkdir, at("a b")),
         ("EINVAL", os.mkdir, at("a\nb")),
-        ("ENAMETOOLONG", os.mkdir, at("x" * 256)),
-        ("ok", os.mkdir, at("x" * 255)),
-        ("ok", os.makedirs, at(*["d"] * 32)),
-        ("EAGAIN", os.mkdir, at(*["d"] * 33)),
+        ("ENAMETOOLONG", os.mkdir, at("x" * (NAME_MAX + 1))),
+        ("ok", os.mkdir, at("x" * NAME_MAX)),
+        ("ok", os.makedirs, at(*["d"] * DEPTH_MAX)),
+        ("EAGAIN", os.mkdir, at(*["d"] * (DEPTH_MAX + 1))),
         ("ok", write, at("a", "cgroup.max.depth"), b"1\n"),
         ("ok", os.mkdir, at("a", "b")),
         ("EAGAIN", os.mkdir, at("a", "b", "c")),
@@ -158,18 +159,18 @@ def test_the_errno_of_groups_are_those_of_the_mount(h, as_user):
         ("EACCES", open, at("a", "cgroup.kill")),
         ("EINVAL", write, at("a", "cgroup.kill"), b"x"),
         ("EBUSY", os.rmdir, AT),
-        ("EOPNOTSUPP", write, at("a", "cgroup.freeze"), b"1"),
-        ("ok", write, at("a", "cgroup.freeze"), b"0\n"),
+        ("ERANGE", write, at("a", "cgroup.freeze"), b"2"),
+        ("ok", write, at("a", "cgroup.freeze"), b"1\n"),
         ("ok", write, at("cgroup.subtree_control"), b"+pids"),
         ("EOPNOTSUPP", write, at("cgroup.subtree_control"), b"+memory"),
         ("ENOTDIR", read, at("a", "pids.max", "x")),
         ("ENOTDIR", os.mkdir, at("a", "pids.max", "x")),
-        ("ENOENT", os.mkdir, at(*["e"] * 33)),
+        ("ENOENT", os.mkdir, at(*["e"] * (DEPTH_MAX + 1))),
         ("EISDIR", read, at("a")),
         ("ENOTDIR", os.listdir, at("a", "pids.max")),
         ("ENOENT", os.listdir, at("n")),
         ("ENOENT", os.stat, at("a b")),
-        ("ENAMETOOLONG", os.stat, at("x" * 256)),
+        ("ENOENT", os.stat, at("x" * (NAME_MAX + 1))),
         ("EEXIST", open, at("a", "pids.max"), "x"),
     ]
     assert [code(*step[1:]) for step in steps] == [step[0] for step in steps]
@@ -359,7 +360,7 @@ def test_two_hierarchies_at_two_places(tmp_path):
         assert (
             one.groups() == ["/", "/a"]
             and two.groups() == ["/", "/b"]
-            and code(os.rename, f"{first}/a", f"{second}/a") == "EPERM"
+            and code(os.rename, f"{first}/a", f"{second}/a") == "EXDEV"
         )
     with pytest.raises(ValueError):
         mounted_at("/").__enter__()

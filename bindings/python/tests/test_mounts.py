@@ -1,6 +1,7 @@
 """Several blocks of mounted_at at a time, what they leave behind, and calls that reach files by descriptors."""
 
 import builtins
+import contextlib
 import ctypes
 import errno
 import glob
@@ -8,6 +9,7 @@ import io
 import os
 import pathlib
 import shutil
+import stat
 import subprocess
 import sys
 import threading
@@ -18,13 +20,15 @@ from os import open as early_open
 import pytest
 
 from makhloeum import Hierarchy, mounted_at
-from makhloeum._calls import CALLS, _REFUSED, _SERVED, _WITHOUT_EFFECT
+from makhloeum._calls import _OF_A_NAME, _OF_TWO_NAMES, _REFUSED, _SERVED, _SYNCS, _WITHOUT_EFFECT, CALLS
 
+REAL_STAT = os.stat
 AT = "/sys/fs/cgroup"
 REPLACED = [
     (builtins, "open"),
     (io, "open"),
-    *((os, name) for name in ("open", *_SERVED, *_REFUSED, *_WITHOUT_EFFECT) if hasattr(os, name)),
+    *((os, name) for name in ("open", *_SERVED, *_REFUSED, *_WITHOUT_EFFECT, *_SYNCS) if hasattr(os, name)),
+    *((os, name) for name in (*_OF_A_NAME, *_OF_TWO_NAMES)),
 ]
 
 
@@ -189,6 +193,73 @@ def test_a_patch_that_ends_later_leaves_nothing():
     patch.__exit__(None, None, None)
     with mounted_at(AT):
         assert "cgroup.procs" in os.listdir(AT)
+
+
+@pytest.mark.parametrize("wraps", [True, False])
+def test_patches_over_os_stat_in_two_blocks(tmp_path, wraps):
+    """The first one is over ours when its block ends, so ours stays below; the second is over the first, or calls nobody."""
+    (tmp_path / "f").write_text("real")
+    stack = contextlib.ExitStack()
+    with mounted_at(AT):
+        first = stack.enter_context(unittest.mock.patch("os.stat", wraps=os.stat))
+        assert os.stat(f"{AT}/cgroup.procs").st_size == 2 and first.call_count == 1
+    with mounted_at(AT):
+        assert os.stat(f"{AT}/cgroup.procs").st_size == 2 and os.stat(tmp_path / "f").st_size == 4
+    more = {"wraps": os.stat} if wraps else {"return_value": "patched"}
+    second = stack.enter_context(unittest.mock.patch("os.stat", **more))
+    for _ in range(2):
+        with mounted_at(AT):
+            assert os.stat(f"{AT}/cgroup.procs").st_size == 2 and code(os.stat, f"{AT}/none") == "ENOENT"
+            told = os.stat(tmp_path / "f")
+            assert told.st_size == 4 if wraps else told == "patched"
+        assert second.called and (os.stat("/") == "patched" or stat.S_ISDIR(os.stat("/").st_mode))
+    stack.close()
+    assert os.stat(tmp_path / "f").st_size == 4 and code(os.stat, f"{AT}/cgroup.procs") == "ENOENT"
+    with mounted_at(AT):
+        assert os.stat(f"{AT}/cgroup.procs").st_size == 2
+    assert os.stat is REAL_STAT
+
+
+def test_looking_up_a_path_counts_once_for_faults(h):
+    """Names that lead through a group don't count: only the call that the path is for."""
+    os.mkdir(f"{AT}/a/b")
+    calls = (
+        lambda: os.stat(f"{AT}/a/b/.."),
+        lambda: os.listdir(f"{AT}/a/../a/b/../../a"),
+        lambda: os.unlink(f"{AT}/a/b/../pids.max"),
+        lambda: os.rename(f"{AT}/a/pids.max", f"{AT}/none"),
+        lambda: os.mkfifo(f"{AT}/a/f"),
+    )
+    for call in calls:
+        h.fail("/a", error=errno.EIO, nth=1)
+        group = code(call)
+        left = h.clear_faults()
+        assert (group, left) in (("EIO", 0), ("EPERM", 1)), (group, left)
+        for nth in (2, 3):
+            h.fail("/a", error=errno.EIO, nth=nth)
+            assert code(call) != "EIO" and h.clear_faults() == 1
+    for path in ("none", "none/x", "a/none"):
+        h.fail("/a", error=errno.EIO, nth=1)
+        assert code(os.stat, f"{AT}/{path}") == "ENOENT" and h.clear_faults() == 1, path
+
+
+def test_a_descriptor_of_the_older_mount(tmp_path):
+    """A name beside it is one in its own mount, whichever is the newest."""
+    places = [str(tmp_path / name) for name in ("older", "newer", "newest")]
+    with contextlib.ExitStack() as blocks:
+        fds = []
+        for place in places:
+            blocks.enter_context(mounted_at(place)).mkdir(f"/{os.path.basename(place)}")
+            fds.append(os.open(place, os.O_RDONLY))
+        for place, fd in zip(places, fds):
+            own = os.path.basename(place)
+            assert os.stat(own, dir_fd=fd).st_ino == os.stat(f"{place}/{own}").st_ino
+            os.mkdir("more", dir_fd=fd)
+            assert os.path.isdir(f"{place}/more") and os.listdir(fd)[-2:] == sorted((own, "more"))
+            os.rmdir("more", dir_fd=fd)
+            for other in {"older", "newer", "newest"} - {own}:
+                assert code(os.stat, other, dir_fd=fd) == "ENOENT"
+            os.close(fd)
 
 
 def test_a_patch_below_is_used_for_other_paths(tmp_path):
@@ -390,20 +461,34 @@ def test_pathlib_of_each_python_finds_files(version):
 
 def test_real_files_are_not_moved_into_a_mount(h, tmp_path):
     (tmp_path / "f").write_text("real")
-    for call in (os.rename, os.replace, os.link, os.symlink):
+    for call in (os.rename, os.replace, os.link):
         assert (
-            code(call, tmp_path / "f", f"{AT}/a/f") == "EPERM"
-            and code(call, f"{AT}/a/pids.max", tmp_path / "g") == "EPERM"
+            code(call, tmp_path / "f", f"{AT}/a/f") == "EXDEV"
+            and code(call, f"{AT}/a/pids.max", tmp_path / "g") == "EXDEV"
         )
+        # as in the kernel, the first path is looked at first
+        assert (
+            code(call, tmp_path / "none" / "f", f"{AT}/none/f")
+            == code(call, tmp_path / "f", f"{AT}/none/f")
+            == "ENOENT"
+        )
+        assert code(call, f"{AT}/none/f", tmp_path / "none" / "g") == "ENOENT"
+    assert (
+        code(os.symlink, tmp_path / "f", f"{AT}/a/f") == code(os.symlink, f"{AT}/a/pids.max", tmp_path / "g") == "EPERM"
+    )
     assert os.listdir(tmp_path) == ["f"] and (tmp_path / "f").read_text() == "real"
 
 
 def test_arguments_may_have_their_names(h, tmp_path):
     (tmp_path / "f").write_text("real")
     for call in (os.rename, os.replace, os.link, os.symlink):
-        assert code(call, src=tmp_path / "f", dst=f"{AT}/a/f") == code(call, tmp_path / "f", dst=f"{AT}/a/f") == "EPERM"
-        assert code(call, src=f"{AT}/a/pids.max", dst=tmp_path / "g") == "EPERM"
-    assert code(os.unlink, path=f"{AT}/a/pids.max") == "EPERM" and code(os.mkfifo, path=f"{AT}/a/f") == "EACCES"
+        told = "EPERM" if call is os.symlink else "EXDEV"
+        assert code(call, src=tmp_path / "f", dst=f"{AT}/a/f") == code(call, tmp_path / "f", dst=f"{AT}/a/f") == told
+        assert code(call, src=f"{AT}/a/pids.max", dst=tmp_path / "g") == told
+    assert code(os.unlink, path=f"{AT}/a/pids.max") == "EPERM" and code(os.mkfifo, path=f"{AT}/a/f") == "EPERM"
+    assert (
+        code(os.mknod, path=f"{AT}/a/f") == "EACCES" and code(os.mknod, path=f"{AT}/a/f", mode=stat.S_IFIFO) == "EPERM"
+    )
     assert (
         code(os.statvfs, path=AT)
         == code(os.getxattr, path=AT, attribute="user.x")
@@ -415,10 +500,10 @@ def test_arguments_may_have_their_names(h, tmp_path):
 
 
 def test_no_other_kind_of_file_is_made(h):
-    for call in (os.mkfifo, os.mknod):
+    for call, told in ((os.mkfifo, "EPERM"), (os.mknod, "EACCES")):
         assert [code(call, f"{AT}/{path}") for path in ("a/f", "f", "a/pids.max", "a", "none/f")] == [
-            "EACCES",
-            "EACCES",
+            told,
+            told,
             "EEXIST",
             "EEXIST",
             "ENOENT",
@@ -474,7 +559,6 @@ def test_calls_on_a_descriptor_that_are_not_served_raise(h):
             lambda: os.sendfile(real, it, 0, 4),
             lambda: os.fchdir(it),
             lambda: os.fstatvfs(it),
-            lambda: os.fsync(it),
             lambda: os.lockf(it, os.F_LOCK, 0),
             lambda: os.posix_fallocate(it, 0, 1),
             lambda: os.copy_file_range(it, real, 1),

@@ -28,188 +28,53 @@ def h(hierarchy):
     return hierarchy
 
 
-# for each method: a call with a path, the operation that its error names, the kind and the reply
+# for each method its words, the operation that its error names, the kind and the reply; of these the first word is a path
 OF_PATHS = [
-    (lambda h, at: h.mkdir(at("/a")), "mkdir /a", "/a", makhloeum.Exists, "exists"),
-    (
-        lambda h, at: h.mkdir(at("/x/y")),
-        "mkdir /x/y",
-        "/x/y",
-        makhloeum.NoGroup,
-        "nogroup /x",
-    ),
-    (
-        lambda h, at: h.rmdir(at("/a")),
-        "rmdir /a",
-        "/a",
-        makhloeum.HasChildren,
-        "haschildren",
-    ),
-    (
-        lambda h, at: h.rmdir(at("/a/b")),
-        "rmdir /a/b",
-        "/a/b",
-        makhloeum.HasProcesses,
-        "hasprocesses",
-    ),
-    (
-        lambda h, at: h.rmdir(at("/x")),
-        "rmdir /x",
-        "/x",
-        makhloeum.NoGroup,
-        "nogroup /x",
-    ),
-    (lambda h, at: h.rmdir(at("/")), "rmdir /", "/", makhloeum.RootFixed, "rootfixed"),
-    (
-        lambda h, at: h.read(at("/x"), "pids.max"),
-        "read /x pids.max",
-        "/x",
-        makhloeum.NoGroup,
-        "nogroup /x",
-    ),
-    (
-        lambda h, at: h.read(at("/"), b"pids.max"),
-        "read / pids.max",
-        "/",
-        makhloeum.NoFile,
-        "nofile",
-    ),
-    (
-        lambda h, at: h.read(at("/a"), b"none"),
-        "read /a none",
-        "/a",
-        makhloeum.BadFile,
-        "file",
-    ),
-    (
-        lambda h, at: h.read(at("/a"), "cgroup.kill"),
-        "read /a cgroup.kill",
-        "/a",
-        makhloeum.BadDirection,
-        "direction",
-    ),
-    (
-        lambda h, at: h.write(at("/x"), b"pids.max", b"5"),
-        "write /x pids.max 5",
-        "/x",
-        makhloeum.NoGroup,
-        "nogroup /x",
-    ),
-    (
-        lambda h, at: h.write(at("/"), "pids.max", 5),
-        "write / pids.max 5",
-        "/",
-        makhloeum.NoFile,
-        "nofile",
-    ),
-    (
-        lambda h, at: h.write(at("/a"), b"none", "5"),
-        "write /a none 5",
-        "/a",
-        makhloeum.BadFile,
-        "file",
-    ),
-    (
-        lambda h, at: h.write(at("/a"), "pids.peak", 5),
-        "write /a pids.peak 5",
-        "/a",
-        makhloeum.BadDirection,
-        "direction",
-    ),
-    (
-        lambda h, at: h.write(at("/a"), "pids.max", b"x"),
-        "write /a pids.max x",
-        "/a",
-        makhloeum.BadValue,
-        "value",
-    ),
-    (
-        lambda h, at: h.write(at("/a"), "cgroup.procs", 9),
-        "write /a cgroup.procs 9",
-        "/a",
-        makhloeum.NoProcess,
-        "noprocess 9",
-    ),
-    (
-        lambda h, at: h.write(at("/a"), "pids.max", LARGE),
-        f"write /a pids.max {LARGE:#x}",
-        "/a",
-        makhloeum.BadValue,
-        "value",
-    ),
-    (
-        lambda h, at: h.children(at("/x")),
-        "children /x",
-        "/x",
-        makhloeum.NoGroup,
-        "nogroup /x",
-    ),
-    (
-        lambda h, at: h.groups(at("/x")),
-        "groups /x",
-        "/x",
-        makhloeum.NoGroup,
-        "nogroup /x",
-    ),
-    (
-        lambda h, at: h.current(at("/x")),
-        "current /x",
-        "/x",
-        makhloeum.NoGroup,
-        "nogroup /x",
-    ),
-    (lambda h, at: h.current(at("/")), "current /", "/", makhloeum.NoFile, "nofile"),
-    (lambda h, at: h.peak(at("/x")), "peak /x", "/x", makhloeum.NoGroup, "nogroup /x"),
-    (
-        lambda h, at: h.limit(at("/x")),
-        "limit /x",
-        "/x",
-        makhloeum.NoGroup,
-        "nogroup /x",
-    ),
-    (lambda h, at: h.limit(at("/")), "limit /", "/", makhloeum.NoFile, "nofile"),
-    (
-        lambda h, at: h.populated(at("/x")),
-        "populated /x",
-        "/x",
-        makhloeum.NoGroup,
-        "nogroup /x",
-    ),
-    (
-        lambda h, at: h.processes(at("/x")),
-        "processes /x",
-        "/x",
-        makhloeum.NoGroup,
-        "nogroup /x",
-    ),
+    ("mkdir", ("/a",), "mkdir /a", makhloeum.Exists, "exists"),
+    ("mkdir", ("/x/y",), "mkdir /x/y", makhloeum.NoGroup, "nogroup /x"),
+    ("rmdir", ("/a",), "rmdir /a", makhloeum.HasChildren, "haschildren"),
+    ("rmdir", ("/a/b",), "rmdir /a/b", makhloeum.HasProcesses, "hasprocesses"),
+    ("rmdir", ("/x",), "rmdir /x", makhloeum.NoGroup, "nogroup /x"),
+    ("rmdir", ("/",), "rmdir /", makhloeum.RootFixed, "rootfixed"),
+    ("read", ("/x", "pids.max"), "read /x pids.max", makhloeum.NoGroup, "nogroup /x"),
+    ("read", ("/", b"pids.max"), "read / pids.max", makhloeum.NoFile, "nofile"),
+    ("read", ("/a", b"none"), "read /a none", makhloeum.BadFile, "file"),
+    ("read", ("/a", "cgroup.kill"), "read /a cgroup.kill", makhloeum.BadDirection, "direction"),
+    ("write", ("/x", b"pids.max", b"5"), "write /x pids.max 5", makhloeum.NoGroup, "nogroup /x"),
+    ("write", ("/", "pids.max", 5), "write / pids.max 5", makhloeum.NoFile, "nofile"),
+    ("write", ("/a", b"none", "5"), "write /a none 5", makhloeum.BadFile, "file"),
+    ("write", ("/a", "pids.peak", 5), "write /a pids.peak 5", makhloeum.BadDirection, "direction"),
+    ("write", ("/a", "pids.max", b"x"), "write /a pids.max x", makhloeum.BadValue, "value"),
+    ("write", ("/a", "cgroup.procs", 9), "write /a cgroup.procs 9", makhloeum.NoProcess, "noprocess 9"),
+    ("write", ("/a", "pids.max", LARGE), f"write /a pids.max {LARGE:#x}", makhloeum.BadValue, "value"),
+    ("children", ("/x",), "children /x", makhloeum.NoGroup, "nogroup /x"),
+    ("groups", ("/x",), "groups /x", makhloeum.NoGroup, "nogroup /x"),
+    ("current", ("/x",), "current /x", makhloeum.NoGroup, "nogroup /x"),
+    ("current", ("/",), "current /", makhloeum.NoFile, "nofile"),
+    ("peak", ("/x",), "peak /x", makhloeum.NoGroup, "nogroup /x"),
+    ("limit", ("/x",), "limit /x", makhloeum.NoGroup, "nogroup /x"),
+    ("limit", ("/",), "limit /", makhloeum.NoFile, "nofile"),
+    ("populated", ("/x",), "populated /x", makhloeum.NoGroup, "nogroup /x"),
+    ("processes", ("/x",), "processes /x", makhloeum.NoGroup, "nogroup /x"),
 ]
+# and of these it isn't
 OF_NUMBERS = [
-    (lambda h: h.fork(7, 8), "fork 7 8", makhloeum.NoProcess, "noprocess 7"),
-    (lambda h: h.fork(1, 2), "fork 1 2", makhloeum.PidInUse, "pidinuse 2"),
-    (lambda h: h.fork(2, 3), "fork 2 3", makhloeum.PidsMax, "pidsmax /a"),
-    (lambda h: h.fork(1, LARGE), f"fork 1 {LARGE:#x}", makhloeum.BadValue, "value"),
-    (lambda h: h.fork(-LARGE, 5), f"fork -{LARGE:#x} 5", makhloeum.BadValue, "value"),
-    (
-        lambda h: h.fork(LARGE - 1, 5),
-        f"fork {LARGE - 1} 5",
-        makhloeum.BadValue,
-        "value",
-    ),
-    (lambda h: h.exit(9), "exit 9", makhloeum.NoProcess, "noprocess 9"),
-    (lambda h: h.exit(LARGE), f"exit {LARGE:#x}", makhloeum.BadValue, "value"),
-    (lambda h: h.where(9), "where 9", makhloeum.NoProcess, "noprocess 9"),
-    (lambda h: h.where(-1), "where -1", makhloeum.BadValue, "value"),
-    (lambda h: h.where(1 - LARGE), f"where {1 - LARGE}", makhloeum.BadValue, "value"),
-    (lambda h: h.undo_to(9), "undo to 9", makhloeum.NothingToUndo, "nothing"),
-    (
-        lambda h: h.undo_to(LARGE),
-        f"undo to {LARGE:#x}",
-        makhloeum.NothingToUndo,
-        "nothing",
-    ),
-    (lambda h: h.line("nonsense 5"), "nonsense 5", makhloeum.BadSyntax, "syntax"),
-    (lambda h: h.line(b"exit 9"), "exit 9", makhloeum.NoProcess, "noprocess 9"),
-    (lambda h: h.line("where 1\n"), "where 1\n", makhloeum.BadSyntax, "syntax"),
+    ("fork", (7, 8), "fork 7 8", makhloeum.NoProcess, "noprocess 7"),
+    ("fork", (1, 2), "fork 1 2", makhloeum.PidInUse, "pidinuse 2"),
+    ("fork", (2, 3), "fork 2 3", makhloeum.PidsMax, "pidsmax /a"),
+    ("fork", (1, LARGE), f"fork 1 {LARGE:#x}", makhloeum.BadValue, "value"),
+    ("fork", (-LARGE, 5), f"fork -{LARGE:#x} 5", makhloeum.BadValue, "value"),
+    ("fork", (LARGE - 1, 5), f"fork {LARGE - 1} 5", makhloeum.BadValue, "value"),
+    ("exit", (9,), "exit 9", makhloeum.NoProcess, "noprocess 9"),
+    ("exit", (LARGE,), f"exit {LARGE:#x}", makhloeum.BadValue, "value"),
+    ("where", (9,), "where 9", makhloeum.NoProcess, "noprocess 9"),
+    ("where", (-1,), "where -1", makhloeum.BadValue, "value"),
+    ("where", (1 - LARGE,), f"where {1 - LARGE}", makhloeum.BadValue, "value"),
+    ("undo_to", (9,), "undo to 9", makhloeum.NothingToUndo, "nothing"),
+    ("undo_to", (LARGE,), f"undo to {LARGE:#x}", makhloeum.NothingToUndo, "nothing"),
+    ("line", ("nonsense 5",), "nonsense 5", makhloeum.BadSyntax, "syntax"),
+    ("line", (b"exit 9",), "exit 9", makhloeum.NoProcess, "noprocess 9"),
+    ("line", ("where 1\n",), "where 1\n", makhloeum.BadSyntax, "syntax"),
 ]
 
 
@@ -219,40 +84,32 @@ def refusal(call):
     return refused.value
 
 
+def check_the_error(h, row, words, path):
+    name, _, command, kind, reply = row
+    refused = refusal(lambda: getattr(h, name)(*words))
+    assert (type(refused), refused.command, refused.filename, refused.reply) == (kind, command, path, reply)
+    assert str(refused).startswith(f"{command}: ") and f"({reply}" in str(refused)
+
+
 @pytest.mark.parametrize("given", GIVEN)
 @pytest.mark.parametrize("row", range(len(OF_PATHS)))
 def test_the_error_of_a_method_with_a_path(h, row, given):
-    call, command, path, kind, reply = OF_PATHS[row]
-    refused = refusal(lambda: call(h, GIVEN[given]))
-    assert (type(refused), refused.command, refused.filename, refused.reply) == (
-        kind,
-        command,
-        path,
-        reply,
-    )
-    assert str(refused).startswith(f"{command}: ") and f"({reply}" in str(refused)
+    path, *words = OF_PATHS[row][1]
+    check_the_error(h, OF_PATHS[row], (GIVEN[given](path), *words), path)
 
 
 @pytest.mark.parametrize("row", range(len(OF_NUMBERS)))
 def test_the_error_of_a_method_without_a_path(h, row):
-    call, command, kind, reply = OF_NUMBERS[row]
-    refused = refusal(lambda: call(h))
-    assert (type(refused), refused.command, refused.filename, refused.reply) == (
-        kind,
-        command,
-        None,
-        reply,
-    )
-    assert str(refused).startswith(f"{command}: ") and f"({reply}" in str(refused)
+    check_the_error(h, OF_NUMBERS[row], OF_NUMBERS[row][1], None)
 
 
 @pytest.mark.parametrize("given", GIVEN)
 def test_the_error_of_a_file_among_many(h, given):
     at = GIVEN[given]
-    rows = [row for row in OF_PATHS if row[1].startswith("read ")]
-    told = h.read_many([(at(row[2]), row[1].split()[2]) for row in rows])
-    assert [(type(it), it.command, it.filename, it.reply) for it in told] == [
-        (row[3], *row[1:3], row[4]) for row in rows
+    rows = [row for row in OF_PATHS if row[0] == "read"]
+    told = h.read_many([(at(words[0]), words[1]) for _, words, *_ in rows])
+    assert [(it.command, it.filename, type(it), it.reply) for it in told] == [
+        (command, words[0], kind, reply) for _, words, command, kind, reply in rows
     ]
 
 

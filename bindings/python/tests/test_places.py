@@ -61,6 +61,7 @@ KINDS = [str, os.fsencode, pathlib.Path, Named]
 @pytest.mark.parametrize("kind", KINDS)
 def test_a_path_may_be_spelled_in_each_way(h, spelling, kind):
     path = kind(spelling)
+    os.mkdir(f"{AT}/b")
     assert stat.S_ISDIR(os.stat(path).st_mode) and os.access(path, os.R_OK)
     assert [os.fsdecode(name) for name in os.listdir(path)] == os.listdir(f"{AT}/a")
     with open(os.path.join(os.fspath(path), *([b"pids.max"] if kind is os.fsencode else ["pids.max"]))) as file:

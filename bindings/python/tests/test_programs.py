@@ -124,8 +124,8 @@ def shell(hierarchy):
         ("source 'a", "No closing quotation\n", True),
         ("nothing /a", f"nothing /a: {SYNTAX}", True),
         ("help undo", "undo [NUMBER]: undo the newest recorded command, or as many as the number\n", False),
-        ("?undo", "undo [NUMBER]: undo the newest recorded command, or as many as the number\n", False),
-        ("? undo", "undo [NUMBER]: undo the newest recorded command, or as many as the number\n", False),
+        ("?undo", f"?undo: {SYNTAX}", True),
+        ("? undo", f"? undo: {SYNTAX}", True),
         ("help nothing", "*** No help on nothing\n", False),
     ],
 )

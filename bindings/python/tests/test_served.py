@@ -64,7 +64,7 @@ def test_a_constant_takes_its_own_text_and_no_other(h, mode):
             file.write(text.encode() if mode == "wb" else text)
 
     refused = errno.errorcode[errno.EOPNOTSUPP]  # it has two names
-    for name, text in (("cgroup.subtree_control", "+pids"), ("a/cgroup.type", "domain"), ("a/cgroup.freeze", "0")):
+    for name, text in (("cgroup.subtree_control", "+pids"), ("a/cgroup.type", "domain")):
         write(name, text)
         write(name, f"{text}\n")
         assert code(write, name, f"-{text}") == code(write, name, "\u00e9") == refused
@@ -87,6 +87,18 @@ def test_a_file_is_made_nowhere(h):
         assert code(open, f"{AT}/none/pids.max", mode) == "ENOENT"
     assert code(open, f"{AT}/a/pids.max", "x") == "EEXIST" and code(open, f"{AT}/a/f", "x") == "EACCES"
     assert code(os.open, f"{AT}/none/pids.max", os.O_WRONLY | os.O_CREAT | os.O_EXCL) == "ENOENT"
+
+
+def test_access_is_that_of_the_owner(h, monkeypatch):
+    monkeypatch.setattr(os, "geteuid", lambda: 1000)
+    modes = {"pids.max": "rw", "pids.current": "r", "cgroup.kill": "w", "": "rwx"}
+    for name, allowed in modes.items():
+        found = "".join(
+            letter
+            for letter in "rwx"
+            if os.access(f"{AT}/a/{name}", {"r": os.R_OK, "w": os.W_OK, "x": os.X_OK}[letter])
+        )
+        assert found == allowed, name
 
 
 def test_files_are_not_programs(h):

@@ -15,7 +15,7 @@ import termios
 import makhloeum
 import pytest
 from makhloeum.__main__ import Shell
-from makhloeum.look.tree import draw, of_hierarchy
+from makhloeum.page.tree import draw, of_hierarchy
 
 FOLDER = os.path.dirname(os.path.dirname(makhloeum.__file__))
 WORDS = dict(os.environ, PYTHONPATH=FOLDER, TERM="dumb")
@@ -201,6 +201,17 @@ def test_an_interrupt_drops_the_line():
     terminal.type(b"ls\nquit\n")
     told = terminal.end()
     assert b"a/\r\n" in told and b"b/" not in told and b"Traceback" not in told
+
+
+@pytest.mark.parametrize("line", ["?", "??", "? mkdir", "?mkdir", "?mkdir /a", " \t? help", "!", "!ls", "! ls"])
+def test_what_the_language_refuses_is_no_help(line):
+    """cmd has words of its own. The program cgshell refuses these lines too."""
+    ran = run(text=f"{line}\nls\n")
+    refused = (
+        f"{line}: Invalid argument (syntax: an unknown command, a wrong number of words, or a line that is too long)\n"
+    )
+    assert ran.returncode == 1 and ran.stdout.startswith(refused + "cgroup."), ran.stdout
+    assert "help COMMAND" not in ran.stdout
 
 
 def test_a_command_is_a_whole_word():

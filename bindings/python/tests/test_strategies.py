@@ -1,6 +1,7 @@
 """The Hypothesis strategies, and the state machine beside the plain model."""
 
 import collections
+import itertools
 import re
 
 import pytest
@@ -13,7 +14,8 @@ from hypothesis import strategies as st  # noqa: E402
 from hypothesis.stateful import invariant, run_state_machine_as_test  # noqa: E402
 
 from makhloeum import BadPath, Hierarchy, PidsMax, Refused  # noqa: E402
-from makhloeum.strategies import HierarchyMachine, _is_full, _is_name  # noqa: E402
+from makhloeum._table import DEPTH_MAX, NAME_MAX, PID_MAX, PIDS_LIMIT_MAX, TEXT_MAX  # noqa: E402
+from makhloeum.strategies import HierarchyMachine, _blocking, _is_full, _is_name  # noqa: E402
 from makhloeum.strategies import commands, limits, names, paths, pids  # noqa: E402
 
 FEW = settings(
@@ -43,9 +45,9 @@ def bounds_of(strategy):
     return [int(most) for most in re.findall(r"max_size=(\d+)", repr(strategy))]
 
 
-@pytest.mark.parametrize("most, wanted", [(1, 1), (31, 31), (32, 32), (33, 32), (40, 32), (1000, 32)])
-def test_a_path_has_at_most_as_many_names_as_a_group_can_have(most, wanted):
-    assert bounds_of(paths(most, st.just("a"))) == [wanted]
+@pytest.mark.parametrize("most", [1, DEPTH_MAX - 1, DEPTH_MAX, DEPTH_MAX + 1, 40, 1000])
+def test_a_path_has_at_most_as_many_names_as_a_group_can_have(most):
+    assert bounds_of(paths(most, st.just("a"))) == [min(most, DEPTH_MAX)]
 
 
 @pytest.mark.parametrize("most", [0, 1, 3])
@@ -58,9 +60,9 @@ def test_paths_of_up_to_so_many_names(most):
         hypothesis.find(drawn, lambda it: it.count("a") > most, settings=FEW)
 
 
-@pytest.mark.parametrize("given, wanted", [(1, 1), (12, 12), (255, 255), (256, 255), (1000, 255)])
-def test_a_name_has_at_most_255_letters(given, wanted):
-    assert bounds_of(names(given)) == [wanted]
+@pytest.mark.parametrize("given", [1, 12, NAME_MAX, NAME_MAX + 1, 1000])
+def test_a_name_has_at_most_255_letters(given):
+    assert bounds_of(names(given)) == [min(given, NAME_MAX)]
 
 
 @pytest.mark.parametrize("most", [1, 4])
@@ -73,7 +75,7 @@ def test_bounds_of_numbers(most):
 
 
 def test_what_is_drawn_without_bounds():
-    for drawn, number in ((pids(), 4194303), (limits().filter(lambda it: it != "max").map(int), 4194304)):
+    for drawn, number in ((pids(), PID_MAX), (limits().filter(lambda it: it != "max").map(int), PIDS_LIMIT_MAX)):
         assert hypothesis.find(drawn, lambda it, n=number: it == n, settings=DEEP) == number
         with pytest.raises(hypothesis.errors.NoSuchExample):
             hypothesis.find(drawn, lambda it, n=number: it > n, settings=FEW)
@@ -113,10 +115,10 @@ def test_each_kind_of_command_is_drawn(drawn):
 
 
 @FEW
-@given(paths(32, names(255)), pids(), limits())
+@given(paths(DEPTH_MAX, names(NAME_MAX)), pids(), limits())
 def test_paths_pids_and_limits_are_accepted(path, pid, limit):
     with Hierarchy() as h:
-        if len(path) < 4096:
+        if len(path) <= TEXT_MAX:
             assert h.has_group(path) == (path == "/")
         h.mkdir("/a")
         h.write("/a", "pids.max", limit)
@@ -198,6 +200,28 @@ def test_each_kind_of_limit_refuses_one_command_in_twenty(examples, steps):
     for kind in ("PidsMax", "Descendants", "Depth"):
         assert COUNTS[kind] >= COUNTS["all"] / 20, COUNTS
     assert COUNTS["str"] >= COUNTS["all"] / 3, COUNTS
+
+
+def test_a_new_group_is_blocked_exactly_by_the_limit_that_refuses_it():
+    files, groups = ("cgroup.max.descendants", "cgroup.max.depth"), ("/", "/a", "/a/b")
+    seen = collections.Counter()
+    for values in itertools.product(("max", "0", "1", "2", "3"), repeat=4):
+        with Hierarchy() as h:
+            h.mkdir("/a")
+            h.mkdir("/a/b")
+            for (group, file), value in zip(itertools.product(groups[:2], files), values):
+                h.write(group, file, value)
+            for group in groups:
+                try:
+                    h.mkdir(f"{group.rstrip('/')}/new")
+                    h.undo()
+                    wanted = "", ""
+                except Refused as no:
+                    word, at = no.reply.split(" ")
+                    wanted = at, f"cgroup.max.{word}"
+                assert _blocking(h, group) == wanted, (values, group)
+                seen[wanted] += 1
+    assert len(seen) == 5
 
 
 def test_a_group_is_full_exactly_where_a_fork_is_refused():

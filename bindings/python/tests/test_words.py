@@ -8,6 +8,7 @@ import pytest
 
 import makhloeum
 from makhloeum import BadDirection, BadFile, BadPath, BadSyntax, BadValue, PidsMax, Refused
+from makhloeum._table import NAME_MAX
 
 LENGTHS = [
     1,
@@ -50,7 +51,7 @@ def h(hierarchy):
     return hierarchy
 
 
-LONGEST = "/" + "/".join(["n" * 255] * 15 + ["n" * 254])
+LONGEST = "/" + "/".join(["n" * NAME_MAX] * 15 + ["n" * (NAME_MAX - 1)])
 
 
 def kind(call):
@@ -66,7 +67,7 @@ def kind(call):
 
 @pytest.mark.parametrize("n", LENGTHS)
 def test_the_first_fault_counts_however_long_the_words_are(h, n):
-    path, file, digits = "/a/" + "x" * (n + 256), "pids.max" + "x" * n, "5" * (n + 7)
+    path, file, digits = "/a/" + "x" * (n + NAME_MAX + 1), "pids.max" + "x" * n, "5" * (n + 7)
     for call, want in (
         (lambda: h.mkdir(path), BadPath),
         (lambda: h.rmdir(path), BadPath),

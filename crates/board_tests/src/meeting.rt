@@ -1,6 +1,8 @@
-//! A test hook where the parts of a settlement wait for one another.
+//! A test hook where the parts of a settlement wait for one another. `.ci/refused/run` sees the call by which each part lets
+//! other threads run first.
 
 use pids_charge::Gate;
+use std::thread::yield_now;
 use test_support::Barrier;
 
 /// A barrier for the parts.
@@ -29,6 +31,7 @@ impl Meeting {
 
 impl Gate for Meeting {
     fn pass(&self, part: u8) {
+        yield_now();
         self.barrier.pass(part);
     }
 }

@@ -9,12 +9,13 @@
 //!
 //! Only tests check that C declares these calls correctly, and that a caller meets their conditions.
 //!
-//! `specs/Status.antt` says what each call returns and leaves, `specs/Sealed.antt` what a handle owns.
+//! `specs/Status.antt` says what each call returns and leaves, with its laws in `laws`; `specs/Sealed.antt` what a handle owns.
 #![tactic(auto)]
 
 mod exports;
 mod handle;
 mod info;
+pub mod laws;
 mod numbers;
 mod parts;
 mod paths;

@@ -1,10 +1,10 @@
 -- How far the event totals get with each call.
 use Rattle.std.proofs.Common.{◌≡◌, ℕ, ◌+◌, ◌-◌, ◌<◌, ◌≤◌, Bool, true, false, cond, List, [], ◌∷◌, Option, Some, None, Result, Ok, Err, length, is_some, sym, ap, subst, ◌∙◌, arith}
-use Rattle.std.specs.Prelude.{unwrap_or, OnOk, OnErr}
+use Rattle.std.specs.Prelude.{unwrap_or, IfOk, OnOk, OnErr}
 use Rattle.std.specs.FinMap.{get}
 use Rattle.flat_model.specs.Path.{Path, same_path}
 use Rattle.flat_model.specs.State.{State, Attr}
-use Rattle.flat_model.specs.Command.{Command, Refusal}
+use Rattle.flat_model.specs.Command.{Command, Refusal, Fork, OverPidsMax}
 use Rattle.flat_model.specs.EventTotals.{HasEventsUpTo}
 use Rattle.flat_model.specs.Inverse.{back, Counted, Removed}
 use Rattle.flat_model.specs.Step.{after, count_down, counts_for, set_peak, set_peaks}
@@ -12,7 +12,9 @@ use Rattle.flat_model.proofs.PathLaws.{at_or_below_take, at_or_below_length}
 pub use Rattle.flat_model.proofs.EventBounds.{up_more}
 use Rattle.flat_model.proofs.EventBounds.{up_put, up_each, up_after, up_one_more, up_refused}
 use Rattle.pids_charge.specs.Events.{HasEvents}
-use Rattle.pids_charge.specs.Answers.{Does, refusal_of_fault, after_fault}
+use Rattle.pids_charge.specs.Answers.{Does, ForksTo, refusal_of_fault, after_fault}
+use Rattle.pids_charge.specs.declared.fork.ForkOutcome.{ForkOutcome}
+use Rattle.pids_charge.specs.declared.fork.ForkOutcome.TheVariants as fork
 use Rattle.pids_charge.specs.declared.fault.ChargeFault.{ChargeFault}
 
 up_fault : (n : ℕ) (s : State) (o : Option Refusal) → HasEventsUpTo n s → HasEventsUpTo (n + 1) (after_fault s o)
@@ -27,6 +29,14 @@ up_set n s new a peaks h e = subst (HasEventsUpTo (n + 1)) (sym e) (up_one_more 
 pub up_does : {X : Type 0} (slots n : ℕ) (s : State) (c : Command) (p : Path) (r : Result X ChargeFault) (new : State) → HasEventsUpTo n s → Does slots s c p r new → HasEventsUpTo (n + 1) new
 up_does slots n s c p (Ok x) new h does = subst (HasEventsUpTo (n + 1)) (sym does.1) (up_one_more n (after s c) (up_after n s c h))
 up_does slots n s c p (Err f) new h does = subst (HasEventsUpTo (n + 1)) (sym does.1) (up_fault n s (refusal_of_fault p f) h)
+
+-- a fork that is counted where a limit refuses it
+pub up_forked : {A : Type 0} (slots n : ℕ) (s : State) (from child : ℕ) (r : Result (ForkOutcome A) ChargeFault) (new : State) → HasEventsUpTo n s
+    → IfOk r (λ o. ForksTo slots s from child o new) → OnErr r (new ≡ s) → HasEventsUpTo (n + 1) new
+up_forked slots n s from child (Ok (fork.Made peaks)) new h ok err =
+    subst (HasEventsUpTo (n + 1)) (sym ok.1) (up_one_more n (after s (Fork from child)) (up_after n s (Fork from child) h))
+up_forked slots n s from child (Ok (fork.Counted path shared)) new h ok err = subst (HasEventsUpTo (n + 1)) (sym ok.1) (up_refused n s (OverPidsMax path) h)
+up_forked slots n s from child (Err f) new h ok err = subst (HasEventsUpTo (n + 1)) (sym err) (up_one_more n s h)
 
 one_down : (n k : ℕ) (b : Bool) → k ≤ n → k - cond b 1 0 ≤ n
 one_down n k true h = omega arith

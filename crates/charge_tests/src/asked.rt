@@ -2,7 +2,7 @@
 
 use group_path::GroupPath;
 use group_tree::{Limit, LimitFile};
-use pids_charge::{Lost, PID_MAX, Pid};
+use pids_charge::{Lost, PID_MAX, Peaks, Pid};
 use std::alloc::{AllocError, Global};
 use test_support::{Case, CaseFault};
 
@@ -18,7 +18,8 @@ pub(crate) enum Call {
     Write,
     Move,
     Fork,
-    TryProcess,
+    ForkOrCount,
+    ForkUncounted,
     Exit,
     Kill,
     KillAlone,
@@ -28,9 +29,11 @@ pub(crate) enum Call {
     PlaceAllAlone,
     PlaceBoth,
     PlaceBothAlone,
-    MoveBack,
+    Unfork,
+    Unmove,
     SetPeaks,
     Totals,
+    Slot,
     Peak,
     Current,
     Populated,
@@ -41,7 +44,7 @@ pub(crate) enum Call {
 }
 
 /// The first word of each call.
-const CALLS: [(&[u8], Call); 29] = [
+const CALLS: [(&[u8], Call); 32] = [
     (b"mkdir", Call::Mkdir),
     (b"make_group", Call::MakeGroup),
     (b"new", Call::New),
@@ -51,7 +54,8 @@ const CALLS: [(&[u8], Call); 29] = [
     (b"write", Call::Write),
     (b"move", Call::Move),
     (b"fork", Call::Fork),
-    (b"try_process", Call::TryProcess),
+    (b"fork_or_count", Call::ForkOrCount),
+    (b"fork_uncounted", Call::ForkUncounted),
     (b"exit", Call::Exit),
     (b"kill", Call::Kill),
     (b"kill_alone", Call::KillAlone),
@@ -61,9 +65,11 @@ const CALLS: [(&[u8], Call); 29] = [
     (b"place_all_alone", Call::PlaceAllAlone),
     (b"place_both", Call::PlaceBoth),
     (b"place_both_alone", Call::PlaceBothAlone),
-    (b"move_back", Call::MoveBack),
+    (b"unfork", Call::Unfork),
+    (b"unmove", Call::Unmove),
     (b"set_peaks", Call::SetPeaks),
     (b"totals", Call::Totals),
+    (b"slot", Call::Slot),
     (b"peak", Call::Peak),
     (b"current", Call::Current),
     (b"populated", Call::Populated),
@@ -152,6 +158,15 @@ impl Asked {
             Some(number) => Limit::At((*number % 4_294_967_296) as u32),
             None => Limit::Unlimited,
         }
+    }
+
+    /// The numbers after the process, as a list of peaks.
+    pub(crate) fn peaks(&self, alloc: Global) -> Result<Peaks<Global>, AllocError> {
+        let peaks = match self.numbers.as_slice() {
+            [_, peaks @ ..] => peaks,
+            [] => &[],
+        };
+        Ok(Peaks::of(Vec::from_slice(alloc, peaks)?))
     }
 
     /// The first process with the group.

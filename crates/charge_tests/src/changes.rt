@@ -1,14 +1,17 @@
 //! The calls that change charges. Each lets the event totals get by one at most, so that there is room for those of a fork.
 
-ghost use Rattle.std.specs.Prelude.{ℕ, ◌+◌, ◌≤◌, ◌≡◌, IsTrue, IsSome, IfOk, None};
+ghost use Rattle.std.specs.Prelude.{ℕ, ◌+◌, ◌≤◌, ◌≡◌, true, length, IsTrue, IsSome, IfOk, None};
 ghost use Rattle.std.specs.FinMap as fin;
+ghost use Rattle.flat_model.specs.Counts.{has_process};
 ghost use Rattle.flat_model.specs.EventTotals.{HasEventsUpTo};
+ghost use Rattle.flat_model.specs.Step.{home_of};
 ghost use Rattle.pids_charge.specs.Events.{HasRoomForEvents};
 
 use group_path::GroupPath;
 use group_tree::{Attr, Limit, LimitFile};
 use pids_charge::{
-    ChargeFault, Charges, Lost, LostList, Meter, Peaks, Pid, PlainMeter, SLOTS, Settler, Shifted,
+    ChargeFault, Charges, ForkOutcome, Lost, LostList, Meter, Peaks, Pid, PlainMeter, SLOTS,
+    Settler, Shifted,
 };
 use std::alloc::{AllocError, Allocator, Global};
 
@@ -33,7 +36,7 @@ pub(crate) fn make_group<A: Allocator + Clone>(
 {
     match charges.refuses_mkdir(path) {
         Some(fault) => Err(fault),
-        None => charges.make_group(path),
+        None => Ok(charges.make_group(path)?),
     }
 }
 
@@ -134,18 +137,17 @@ pub(crate) fn fork<A: Allocator + Clone>(
     charges.fork(0, parent, child)
 }
 
-/// A fork in its two halves: it is decided, then tried. A refusal is not counted.
-pub(crate) fn try_process<A: Allocator + Clone>(
+/// A fork that is counted where a limit refuses it, if it can be counted.
+pub(crate) fn fork_or_count<A: Allocator + Clone>(
     charges: &mut Apart<A>,
     parent: Pid,
     child: Pid,
-) -> Result<Peaks<A>, ChargeFault>
+    can_count: bool,
+) -> Result<ForkOutcome<A>, ChargeFault>
+    requires { IsTrue can_count → HasRoomForEvents charges.old }
     ensures up { (n : ℕ) → HasEventsUpTo n charges.old → HasEventsUpTo (n + 1) charges.new }
 {
-    match charges.refuses_fork(parent, child) {
-        Some(fault) => Err(fault),
-        None => charges.try_process(0, parent, child),
-    }
+    charges.fork_or_count(0, parent, child, can_count)
 }
 
 pub(crate) fn exit<A: Allocator + Clone>(
@@ -242,18 +244,48 @@ pub(crate) fn place_two<S: Settler, A: Allocator + Clone>(
     Some(charges.place_all_by(settler, 0, &[one, other]))
 }
 
-/// A move without its peaks: the undo of one. None if it may not be made.
-pub(crate) fn move_back<A: Allocator + Clone>(
+/// Whether the list has a peak for each group from that of the process upward, without the root.
+fn fits<A: Allocator + Clone>(charges: &Apart<A>, pid: Pid, peaks: &Peaks<Global>) -> bool
+    ensures process { IsTrue result → has_process charges.now pid ≡ true }
+    ensures many { IsTrue result → length peaks.now ≡ length (home_of charges.now pid) }
+{
+    match charges.home(pid) {
+        Some(home) => home.depth() == peaks.len(),
+        None => false,
+    }
+}
+
+/// Undoes a fork. None if there is no such process, or not a peak for each of its groups.
+pub(crate) fn unfork<A: Allocator + Clone>(
+    charges: &mut Apart<A>,
+    pid: Pid,
+    peaks: &Peaks<Global>,
+) -> Option<Result<(), ChargeFault>>
+    ensures up { (n : ℕ) → HasEventsUpTo n charges.old → HasEventsUpTo (n + 1) charges.new }
+{
+    if !fits(charges, pid, peaks) {
+        return None;
+    }
+    charges.unfork(0, pid, peaks);
+    Some(Ok(()))
+}
+
+/// Undoes a move. None if it may not be made.
+pub(crate) fn unmove<A: Allocator + Clone>(
     charges: &mut Apart<A>,
     pid: Pid,
     path: &GroupPath<Global>,
-) -> Option<Result<GroupPath<A>, ChargeFault>>
+    peaks: &Peaks<Global>,
+) -> Option<Result<(), ChargeFault>>
     ensures up { (n : ℕ) → HasEventsUpTo n charges.old → HasEventsUpTo (n + 1) charges.new }
 {
-    if charges.attr(path).is_none() || charges.home(pid).is_none() {
+    if charges.attr(path).is_none() || !fits(charges, pid, peaks) {
         return None;
     }
-    Some(charges.move_back(0, pid, path))
+    match charges.unmove(0, pid, path, peaks) {
+        Ok(()) => Some(Ok(())),
+        Err(AllocError) => Some(Err(ChargeFault::OutOfMemory)),
+    }
 }
 
 /// Sets the peaks of the group and of those above it. None if there are not as many as groups below the root.

@@ -6,12 +6,12 @@ ghost use Rattle.pids_charge.specs.Events.{HasRoomForEvents};
 
 use crate::asked::{Asked, Call, ask};
 use crate::changes::{
-    Apart, exit, fork, kill, make_group, migrate, mkdir, move_back, place, place_one, place_two,
-    restore, rmdir, set_limit, set_peaks, take_group, try_process, uncount,
+    Apart, exit, fork, fork_or_count, kill, make_group, migrate, mkdir, place, place_one,
+    place_two, restore, rmdir, set_limit, set_peaks, take_group, uncount, unfork, unmove,
 };
 use crate::said::{
-    kept, say_attr, say_done, say_flag, say_home, say_limit, say_lost, say_members, say_moved,
-    say_number, say_path, say_peaks, say_totals,
+    kept, say_attr, say_done, say_flag, say_forked, say_home, say_limit, say_lost, say_members,
+    say_moved, say_number, say_path, say_peaks, say_totals, say_uncounted,
 };
 use crate::shown::{is_copied, show};
 use group_tree::Attr;
@@ -95,7 +95,8 @@ fn answer<R: Threads, A: Allocator + Clone>(
         Call::Write => say_limit(said, set_limit(charges, path, asked.file, asked.limit())),
         Call::Move => say_moved(said, migrate(charges, pid, path)),
         Call::Fork => say_peaks(said, fork(charges, pid, other)),
-        Call::TryProcess => say_peaks(said, try_process(charges, pid, other)),
+        Call::ForkOrCount => say_forked(said, fork_or_count(charges, pid, other, true)),
+        Call::ForkUncounted => say_uncounted(said, fork_or_count(charges, pid, other, false)),
         Call::Exit => say_path(said, Some(exit(charges, pid))),
         Call::Kill => say_lost(said, kill(&with_threads(rt, &OpenGate), charges, path)),
         Call::KillAlone => say_lost(said, kill(&Alone, charges, path)),
@@ -120,9 +121,20 @@ fn answer<R: Threads, A: Allocator + Clone>(
             let above = asked.lost_above(alloc)?;
             kept(say_done(said, place_two(&Alone, charges, one, above)))
         }
-        Call::MoveBack => say_path(said, move_back(charges, pid, path)),
+        Call::Unfork => {
+            let peaks = asked.peaks(alloc)?;
+            say_done(said, unfork(charges, pid, &peaks))
+        }
+        Call::Unmove => {
+            let peaks = asked.peaks(alloc)?;
+            say_done(said, unmove(charges, pid, path, &peaks))
+        }
         Call::SetPeaks => say_done(said, set_peaks(charges, path, asked.numbers.as_slice())),
         Call::Totals => say_totals(said, tested.charges.attr(path)),
+        Call::Slot => {
+            let slot = tested.charges.attr(path).map(|attr| u64::from(attr.slot));
+            say_number(said, slot)
+        }
         Call::Peak => say_number(said, tested.charges.attr(path).map(|attr| attr.peak)),
         Call::Current => say_number(said, charges.current(path)),
         Call::Populated => say_flag(said, charges.populated(path)),

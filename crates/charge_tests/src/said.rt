@@ -2,7 +2,7 @@
 
 use group_path::GroupPath;
 use group_tree::{Attr, Limit};
-use pids_charge::{ChargeFault, LostList, Peaks, Pid, Shifted};
+use pids_charge::{ChargeFault, ForkOutcome, LostList, Peaks, Pid, Shifted};
 use std::alloc::{AllocError, Allocator};
 use test_support::{Outcome, push_escaped};
 
@@ -84,6 +84,36 @@ pub(crate) fn say_peaks<A: Allocator + Clone>(
     match made {
         Err(fault) => return say_fault(said, fault),
         Ok(peaks) => push_peaks(said, &peaks)?,
+    }
+    Ok(Outcome::Answered)
+}
+
+/// The old peaks of a fork that was made, or twice the group whose limit refused it.
+pub(crate) fn say_forked<A: Allocator + Clone>(
+    said: &mut String,
+    forked: Result<ForkOutcome<A>, ChargeFault>,
+) -> Result<Outcome, AllocError> {
+    match forked {
+        Err(fault) => return say_fault(said, fault),
+        Ok(ForkOutcome::Made(peaks)) => push_peaks(said, &peaks)?,
+        Ok(ForkOutcome::Counted { path, shared }) => {
+            said.push_str("counted ")?;
+            push_escaped(said, path.text())?;
+            said.push(' ')?;
+            push_escaped(said, shared.text())?;
+        }
+    }
+    Ok(Outcome::Answered)
+}
+
+/// The same where a refused fork can't be counted, and is out of memory instead.
+pub(crate) fn say_uncounted<A: Allocator + Clone>(
+    said: &mut String,
+    forked: Result<ForkOutcome<A>, ChargeFault>,
+) -> Result<Outcome, AllocError> {
+    match forked {
+        Err(ChargeFault::OutOfMemory) => said.push_str("not counted")?,
+        other => return say_forked(said, other),
     }
     Ok(Outcome::Answered)
 }

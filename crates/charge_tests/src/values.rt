@@ -48,21 +48,25 @@ fn meter_fits(alloc: Global, size: usize) -> Result<(bool, usize), AllocError> {
     Ok((fits, heap.used()))
 }
 
-/// Whether the page of a single process takes more than 2,048 bytes, and its removal frees them. The lists of pages and of
-/// slots keep what they have.
-fn is_page_freed(alloc: Global) -> Result<bool, AllocError> {
+/// Whether the page of a single process takes more than 2,048 bytes, and the page that is emptied last alone keeps them. The
+/// lists of pages and of slots keep what they have.
+fn is_one_page_kept(alloc: Global) -> Result<bool, AllocError> {
     let heap = LocalHeap::new(alloc, 65_536)?;
     let mut table = Homed::new(alloc, &heap)?;
     let _first = table.put(640, 1, 0)?;
     let _taken = table.take(640);
     let kept = heap.used();
-    for pid in [640u32, 1, 700, 64] {
+    for pid in [1u32, 700, 64] {
         let is_put = table.put(pid, 1, 0)?.is_none() && table.put(pid, 1, 1)?.is_some();
         let is_held = kept.saturating_add(2048) < heap.used();
         if !is_put || !is_held {
             return Ok(false);
         }
         if table.take(pid).is_none() || heap.used() != kept {
+            return Ok(false);
+        }
+        let is_put_again = table.put(pid, 1, 0)?.is_none() && heap.used() == kept;
+        if !is_put_again || table.take(pid).is_none() || heap.used() != kept {
             return Ok(false);
         }
     }
@@ -112,9 +116,9 @@ impl Subject for Values {
                 let size = (case.number(1)? % 1_048_576) as usize;
                 say_fit(said, meter_fits(alloc, size)?)?;
             }
-            b"page_freed" => {
-                let freed = is_page_freed(alloc)?;
-                write!(said, "{freed}")?;
+            b"one_page_kept" => {
+                let kept = is_one_page_kept(alloc)?;
+                write!(said, "{kept}")?;
             }
             _ => return Err(CaseFault::Malformed),
         }

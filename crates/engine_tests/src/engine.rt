@@ -8,7 +8,7 @@ use pids_charge::{Gate, OpenGate, PlainMeter};
 use std::alloc::{AllocError, Allocator, Global};
 use std::sync::Wait;
 use std::sync::atomic::{AtomicU64, Ordering};
-use std::thread::Threads;
+use std::thread::{Threads, yield_now};
 use test_support::{BLOCK_SIZE, BLOCKS_MAX, Case, CaseFault, Outcome, Subject};
 use undo_journal::{Command, Engine, Reply};
 
@@ -27,7 +27,7 @@ pub(crate) struct Tested<E: Allocator + Clone, A: Allocator + Clone> {
     taken: Vec<Vec<u8, A>>,
 }
 
-/// The parts that have passed, as the digits of a number.
+/// The parts that have passed, as the digits of a number. Each lets other threads run, by a call that `.ci/refused/run` sees.
 #[derive(Drop)]
 struct Passed {
     parts: AtomicU64,
@@ -38,6 +38,7 @@ impl Gate for Passed {
         let before = self.parts.load(Ordering::SeqCst);
         let parts = before.wrapping_mul(10).wrapping_add(u64::from(part));
         self.parts.store(parts, Ordering::SeqCst);
+        yield_now();
     }
 }
 

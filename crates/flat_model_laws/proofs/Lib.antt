@@ -25,3 +25,6 @@ pub mod AuditSame
 pub mod ExamplesAudits
 mod ExamplesLogs
 mod LogLaws
+mod LimitChanges
+mod MappedReadings
+mod ReplyWords

@@ -4,6 +4,7 @@ pub mod audits;
 pub mod files;
 pub mod lines;
 pub mod logs;
+pub mod outputs;
 pub mod paths;
 pub mod traces;
 pub mod values;

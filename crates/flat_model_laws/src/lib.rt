@@ -11,7 +11,7 @@
 //!   commands reach.
 //! - `logs`: where a log ends, and that it is legal, entry by entry.
 //! - `audits`: receipts are a log's entries, each once, exactly if they have no first fault.
-//! - `examples`: whole traces with their output, and texts, values, files, logs and audits.
+//! - `examples`: whole traces with their output, and texts, values, files, lines, replies, logs and audits.
 //!
 //! No program uses this crate.
 #![tactic(auto)]

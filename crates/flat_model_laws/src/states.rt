@@ -15,9 +15,11 @@ ghost use Rattle.std.specs.Prelude.{
   ltb,
   sum_by,
 };
-ghost use Rattle.std.specs.FinMap.{get, len};
+ghost use lib.Dec.{T};
+ghost use Rattle.std.specs.Ordering.{nat_cmp};
+ghost use Rattle.std.specs.FinMap.{find, get, is_sorted, len};
 ghost use Rattle.flat_model.specs.Path.{Path, at_or_below, is_root, parent};
-ghost use Rattle.flat_model.specs.State.{State, Attr, Unlimited, start};
+ghost use Rattle.flat_model.specs.State.{State, Attr, Limit, Unlimited, start, fresh};
 ghost use Rattle.flat_model.specs.Counts.{
   asks,
   is_group,
@@ -28,7 +30,7 @@ ghost use Rattle.flat_model.specs.Counts.{
   children,
   IsInhabited,
 };
-ghost use Rattle.flat_model.specs.File.{Procs};
+ghost use Rattle.flat_model.specs.File.{LimitFile, Procs};
 ghost use Rattle.flat_model.specs.Command.{
   Command,
   MakeGroup,
@@ -42,7 +44,8 @@ ghost use Rattle.flat_model.specs.Command.{
   OverPidsMax,
   is_counted,
 };
-ghost use Rattle.flat_model.specs.Step.{refusal, after, after_refusal, home_of};
+ghost use Rattle.flat_model.specs.Inverse.{lost};
+ghost use Rattle.flat_model.specs.Step.{refusal, after, after_refusal, home_of, limit_at, with_limit};
 ghost use Rattle.flat_model.specs.WellFormed.{WellFormed};
 ghost use Rattle.flat_model.specs.EventTotals.{IsCounted};
 ghost use Rattle.flat_model.specs.Limiting.{
@@ -94,6 +97,7 @@ pub fn new_groups_are_bare()
           total = 0;
           peak = 0;
         }) }
+    ensures fresh { (s : State) (p : Path) → get (after s (MakeGroup p)).groups p ≡ Some fresh }
     ensures others { (s : State) (p q : Path) → q ≢ p
         → get (after s (MakeGroup p)).groups q ≡ get s.groups q }
     ensures home { (s : State) (p : Path) → (after s (MakeGroup p)).home ≡ s.home }
@@ -110,11 +114,29 @@ pub fn events_are_exact()
     ensures others { (s : State) (r : Refusal) → is_counted r ≡ false → after_refusal s r ≡ s }
 {}
 
-/// A kill leaves no process in the group or below it, and all other processes where they are.
+/// A limit that was set is that of its file, and no other limit, total or peak has changed.
+pub fn one_limit_is_set()
+    ensures set { (file : LimitFile) (l : Limit) (a : Attr) → limit_at file (with_limit file l a) ≡ l }
+    ensures others { (file other : LimitFile) (l : Limit) (a : Attr) → other ≢ file
+        → limit_at other (with_limit file l a) ≡ limit_at other a }
+    ensures kept { (file : LimitFile) (a : Attr) → with_limit file (limit_at file a) a ≡ a }
+    ensures last { (file : LimitFile) (l m : Limit) (a : Attr)
+        → with_limit file m (with_limit file l a) ≡ with_limit file m a }
+    ensures local { (file : LimitFile) (l : Limit) (a : Attr) → (with_limit file l a).local ≡ a.local }
+    ensures total { (file : LimitFile) (l : Limit) (a : Attr) → (with_limit file l a).total ≡ a.total }
+    ensures peak { (file : LimitFile) (l : Limit) (a : Attr) → (with_limit file l a).peak ≡ a.peak }
+{}
+
+/// A kill leaves no process in the group or below it, and all other processes where they are. What is lost are the processes
+/// that were there, each once with its home, by ascending pids.
 pub fn kill_is_whole()
     ensures nobody { (s : State) (g : Path) → populated (after s (Kill g)) g ≡ false }
     ensures others { (s : State) (g : Path) (pid : ℕ) (p : Path) → get s.home pid ≡ Some p
         → at_or_below p g ≡ false → get (after s (Kill g)).home pid ≡ Some p }
+    ensures lost { (s : State) (g : Path) (pid : ℕ) (p : Path)
+        → (find nat_cmp pid (lost s g) ≡ Some p)
+        ↔ ((get s.home pid ≡ Some p) × (at_or_below p g ≡ true)) }
+    ensures ascending { (s : State) (g : Path) → T (is_sorted nat_cmp (lost s g)) }
 {}
 
 /// A limit refuses exactly what would break it, and names its group: the nearest at or above the fork or the new group. At

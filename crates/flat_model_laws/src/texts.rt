@@ -8,6 +8,7 @@ ghost use Rattle.std.specs.Prelude.{
   false,
   List,
   Some,
+  Result,
   Ok,
   Err,
   codes,
@@ -16,6 +17,7 @@ ghost use Rattle.std.specs.Prelude.{
   map,
 };
 ghost use Rattle.std.specs.List.{AllByRecursion};
+ghost use Rattle.flat_model.specs.Refuse.{map_ok};
 ghost use Rattle.flat_model.specs.Path.{Path};
 ghost use Rattle.flat_model.specs.State.{Limit};
 ghost use Rattle.flat_model.specs.File.{LimitFile, File, file_name, file_named, readable, writable};
@@ -37,6 +39,13 @@ ghost use Rattle.flat_model.specs.Trace.{
   read_line,
   read_trace,
 };
+
+/// A reading that is mapped has a value exactly if the reading has one, which is mapped, and the same fault otherwise.
+pub fn readings_are_mapped()
+    ensures read { (f : ℕ → List ℕ) (r : Result ℕ Path) (t : List ℕ)
+        → (map_ok f r ≡ Ok t) ↔ ((n : ℕ) × (r ≡ Ok n) × (f n ≡ t)) }
+    ensures fault { (f : ℕ → List ℕ) (r : Result ℕ Path) (p : Path) → (map_ok f r ≡ Err p) ↔ (r ≡ Err p) }
+{}
 
 /// A pid is read from its decimal digits, with or without spaces at both ends, and from no other
 /// text.

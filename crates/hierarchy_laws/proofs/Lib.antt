@@ -2,3 +2,4 @@ mod FaultLaws
 mod SituationLaws
 mod FlatLaws
 mod ClosedLaws
+mod BelowLaws

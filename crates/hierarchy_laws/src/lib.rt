@@ -4,11 +4,13 @@
 //! where possible, so that a weaker definition would not satisfy it.
 //!
 //! - `paths`: what a call of `group_path` returns for each result of the grammar, and the result for a text with each fault.
+//! - `below`: the groups below one, how many they are, and the names of the children.
 //! - `trees`: what the calls of `group_tree` return and leave, depending on the tree; and the tree's values in the flat
 //!   state.
 //!
 //! The laws of paths, of their order and of their grammar are in `flat_model_laws`.
 #![tactic(auto)]
 
+pub mod below;
 pub mod paths;
 pub mod trees;

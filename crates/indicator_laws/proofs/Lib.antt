@@ -5,3 +5,4 @@ mod Rows
 mod NoEvent
 mod LawfulRuns
 mod EmptyRuns
+mod WordLaws

@@ -39,3 +39,13 @@ roomy = core (1 ∷ 1 ∷ 1 ∷ 0 ∷ 0 ∷ []) 65534 (1099511627775 ∷ 1099511
 -- main with n helpers out
 abbrev pub main_with : ℕ → List ℕ → List ℕ → Holding
 main_with n tokens amounts = record { role = Main n; tokens = tokens; amounts = amounts }
+
+-- two slots of three nodes and two stripes each: main has a token at the first leaf of the first slot; main and a helper have amounts in the stripes
+abbrev pub paid : CoreState
+paid = record {
+  slots = 2;
+  nodes = 3;
+  words = 1 ∷ 1 ∷ 0 ∷ 6 ∷ 9 ∷ 0 ∷ 0 ∷ 0 ∷ 100 ∷ 200 ∷ [];
+  hands = main_with 1 (0 ∷ 1 ∷ []) (0 ∷ 0 ∷ 0 ∷ 5 ∷ 7 ∷ 0 ∷ 0 ∷ 0 ∷ 100 ∷ 0 ∷ [])
+      ∷ record { role = Helper; tokens = []; amounts = 0 ∷ 0 ∷ 0 ∷ 1 ∷ 2 ∷ 0 ∷ 0 ∷ 0 ∷ 0 ∷ 200 ∷ [] } ∷ [];
+}

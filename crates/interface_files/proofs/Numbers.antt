@@ -15,7 +15,7 @@ use Rattle.flat_model.specs.Values.{ValueFault, Empty, NotANumber, LeadingZero, 
 
 -- ---- the value
 
-in_range : (b : ℕ) → is_ascii_digit b ≡ true → IsInRange 48 57 b
+pub in_range : (b : ℕ) → is_ascii_digit b ≡ true → IsInRange 48 57 b
 in_range b e = (grind (arith, nat_tests), grind (arith, nat_tests))
 
 and_first : (a b : Bool) → (a && b) ≡ true → a ≡ true
@@ -46,7 +46,7 @@ value_more ds i v d lt is all e =
 pub great_is_beyond : (ds : List ℕ) (i n high most : ℕ) → n ≡ digits_value 10 (take i ds) → most ≡ high → most < n → digits_value 10 ds ≤ high → ⊥
 great_is_beyond ds i n high most is e great h = omega (arith, digits_value-take-le 10 ds i (omega arith), is, e, great, h)
 
-all_digits-list_all : (ds : List ℕ) → list_all (λ b. is_ascii_digit b) ds ≡ all_ascii_digits ds
+pub all_digits-list_all : (ds : List ℕ) → list_all (λ b. is_ascii_digit b) ds ≡ all_ascii_digits ds
 all_digits-list_all [] = refl
 all_digits-list_all (x ∷ ds) = ap (λ t. is_ascii_digit x && t) (all_digits-list_all ds)
 

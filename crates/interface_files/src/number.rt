@@ -54,6 +54,12 @@ pub(crate) fn trimmed(text: &[u8]) -> &[u8]
     without_end(without_front(text))
 }
 
+pub(crate) fn begins_with_zero(digits: &[u8]) -> bool
+    ensures { result ≡ begins_with_zero digits.now }
+{
+    matches!(digits, [b'0', ..])
+}
+
 // Whether a zero comes before other digits.
 fn is_padded(digits: &[u8]) -> bool
     ensures { result ≡ (nat_lt 1 (length digits.now) && begins_with_zero digits.now) }

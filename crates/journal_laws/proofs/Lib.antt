@@ -3,3 +3,4 @@ mod HistoryLaws
 mod MeaningLaws
 mod LineFaults
 mod ForgetLaws
+mod RecordedCommands

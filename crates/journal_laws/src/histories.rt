@@ -70,6 +70,7 @@ ghost use Rattle.undo_journal.specs.Answer.{
   IsNewest,
   newest_command,
   record_of,
+  recorded_commands,
   state_after,
   undoes_without_memory,
 };
@@ -97,6 +98,16 @@ pub fn answers_are_one()
         → (reply_of r ≡ reply_of q) × (new ≡ again) }
     ensures answered { (slots : ℕ) (old new : Timeline) (c : model.Command) (r : Reply Global)
         → Answers slots old c r new → reply_of r ≢ None }
+{}
+
+/// The newest recorded command is the last of them, and none is left out.
+pub fn recorded_commands_are_in_order()
+    ensures none { recorded_commands [] ≡ [] }
+    ensures newest { (c : model.Command) (s : State) (past : List (model.Command × State))
+        → recorded_commands ((c, s) ∷ past) ≡ recorded_commands past ++ c ∷ [] }
+    ensures many { (past : List (model.Command × State)) → length (recorded_commands past) ≡ length past }
+    ensures three { (s : State) → recorded_commands ((model.Exit 3, s) ∷ (model.Exit 2, s) ∷ (model.Exit 1, s) ∷ [])
+        ≡ model.Exit 1 ∷ model.Exit 2 ∷ model.Exit 3 ∷ [] }
 {}
 
 /// If a command is recorded, it and the state before it come in front of the old past, so that an undo restores the machine.

@@ -49,7 +49,8 @@ pub fn out_of_memory_is_for_paths()
         × Says (Err e) (trace.Run (model.Kill p)) × Says (Err e) (trace.Run (model.Show p shown)) }
 {}
 
-/// A fork, an exit, a look-up of a process and an undo are never out of memory, nor is a line that is refused or skipped.
+/// Reading the line of a fork, an exit, a look-up of a process or an undo is never out of memory, nor is reading a line that
+/// is refused or skipped.
 pub fn some_have_no_path()
     ensures commands { (e : AllocError) (m n : ℕ) → ¬ (Says (Err e) (trace.Run (model.Fork m n)))
         × ¬ (Says (Err e) (trace.Run (model.Exit m))) × ¬ (Says (Err e) (trace.Run (model.Locate m)))

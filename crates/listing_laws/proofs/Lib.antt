@@ -3,3 +3,4 @@ mod AllGroups
 mod Members
 mod Order
 mod DepthBounds
+mod EngineAnswers

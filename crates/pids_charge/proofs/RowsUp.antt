@@ -12,6 +12,7 @@ use Rattle.flat_model.proofs.Peaks.{named}
 use Rattle.group_tree.specs.Groups.{Groups, slot_of}
 use Rattle.group_tree.specs.declared.attr.Attr.{Attr}
 use Rattle.pids_charge.specs.Events.{counted_by}
+use Rattle.pids_charge.specs.GroupRows.{IsOfGroup}
 use Rattle.pids_charge.specs.Lists.{table_slot}
 use Rattle.pids_charge.specs.Peaks.{peaked_by}
 use Rattle.pids_charge.proofs.Changes.{which}
@@ -154,6 +155,21 @@ step_at old p home prefixes f keeps n l now h at e =
       positive = omega (arith, e, own_slot old own (omega (arith, l, length-take-le (length p - n) p (omega arith))));
       next = λ above says. up.next above (λ q i is. says q (still_there p f keeps n old now h q i) (is ∙ sym (same q)) ∙ same (parent q));
     }
+
+-- after n steps up from the group at p, changed by f, the walk is in the row `at`
+pub record IsPartWay (old now : Groups) (p : Path) (f : ℕ → Attr → Attr) (n at : ℕ) : Type 0 where
+  pub here : at ≡ table_slot old (take (length p - n) p)
+  pub changed : (q : Path) → fin.get now q ≡ option_map (up_by p f n q) (fin.get old q)
+
+pub part_step : (old : Groups) (p : Path) → IsSome (fin.get old p)
+    → ((p q : Path) → IsSome (fin.get old p) → at_or_below p q ≡ true → IsSome (fin.get old q))
+    → (f : ℕ → Attr → Attr) → ((k : ℕ) (a : Attr) → (f k a).slot ≡ a.slot) → (n : ℕ) → n < length p → (now : Groups)
+    → (at : ℕ) → IsPartWay old now p f n at → IsStepAt old now p n at
+part_step old p home prefixes f keeps n l now at w = step_at old p home prefixes f keeps n l now w.changed at w.here
+
+-- the row of such a step is a group's
+pub of_step : (old now : Groups) (p : Path) (n at : ℕ) → IsStepAt old now p n at → IsOfGroup now at
+of_step old now p n at s = record { path = take (length p - n) p; there = s.there; here = s.here }
 
 -- ---- peaks
 

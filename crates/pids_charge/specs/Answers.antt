@@ -4,10 +4,12 @@ use Rattle.flat_model.specs.Path.{Path}
 use Rattle.flat_model.specs.State.{State}
 use Rattle.flat_model.specs.Command as model
 use Rattle.flat_model.specs.Command.{Command, Refusal}
-use Rattle.flat_model.specs.Step.{refusal, after, after_refusal}
+use Rattle.flat_model.specs.Step.{refusal, after, after_refusal, home_of, peaks_upward}
 use Rattle.pids_charge.specs.declared.fault.ChargeFault.{ChargeFault}
 use Rattle.pids_charge.specs.declared.fault.ChargeFault.TheVariants.{Exists, NoGroup, Descendants, Depth, NoSlot, RootFixed, HasChildren}
 use Rattle.pids_charge.specs.declared.fault.ChargeFault.TheVariants.{HasProcesses, NoProcess, PidInUse, PidsMax, OutOfMemory, NoFile}
+use Rattle.pids_charge.specs.declared.fork.ForkOutcome.{ForkOutcome}
+use Rattle.pids_charge.specs.declared.fork.ForkOutcome.TheVariants.{Made, Counted}
 
 -- the refusal of a fault, whose numbers count names of p; out of memory is not a refusal
 abbrev pub refusal_of_fault : Path → ChargeFault → Option Refusal
@@ -50,3 +52,10 @@ names_in (NoProcess pid) = 0
 names_in (PidInUse pid) = 0
 names_in OutOfMemory = 0
 names_in NoFile = 0
+
+-- what becomes of a fork: it is made, with the old peaks of its group and those above it, or it is refused by a limit and counted
+abbrev pub ForksTo : {A : Type 0} → ℕ → State → ℕ → ℕ → ForkOutcome A → State → Type 0
+ForksTo slots s parent child (Made peaks) new =
+    (refusal slots s (model.Fork parent child) ≡ None) × (new ≡ after s (model.Fork parent child)) × (peaks ≡ peaks_upward s (home_of s parent))
+ForksTo slots s parent child (Counted path shared) new =
+    (refusal slots s (model.Fork parent child) ≡ Some (model.OverPidsMax path)) × (new ≡ after_refusal s (model.OverPidsMax path)) × (shared ≡ path)

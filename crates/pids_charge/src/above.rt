@@ -2,8 +2,9 @@
 
 ghost use Rattle.std.specs.Prelude.{◌≡◌, ◌≤◌, length, take, IsSome};
 ghost use Rattle.std.specs.FinMap as fin;
+ghost use Rattle.flat_model.specs.Path.{Path};
 ghost use Rattle.pids_charge.specs.Events.{CountsRefusals, stepped};
-ghost use Rattle.pids_charge.specs.GroupRows.{below_after};
+ghost use Rattle.pids_charge.specs.GroupRows.{below_after, IsOfGroup};
 ghost use Rattle.pids_charge.specs.Lists.{table_slot};
 ghost use Rattle.pids_charge.specs.Peaks.{SetsPeaks};
 
@@ -12,21 +13,14 @@ use group_path::GroupPath;
 use group_tree::Attr;
 use std::alloc::Allocator;
 
-// Sets the peaks of the group at the first names of the path, as many as there are peaks, and of those above it without the
-// root, from that group upward. `slot` is where its processes are in their table.
-pub(crate) fn set_peaks_up<T: Allocator + Clone, A: Allocator + Clone>(
-    tree: &mut GroupTable<T>,
-    path: &GroupPath<A>,
-    slot: u16,
-    peaks: &[u64],
-)
-    requires at { length peaks.now ≤ length path.now }
-    requires group { IsSome (fin.get tree.old (take (length peaks.now) path.now)) }
-    requires slot { slot ≡ table_slot tree.old (take (length peaks.now) path.now) }
-    ensures { SetsPeaks tree.old tree.new (take (length peaks.now) path.now) peaks.now }
+// Sets the peaks of the group in a row and of those above it without the root, from that group upward. There is one for each.
+pub(crate) fn set_peaks_up<T: Allocator + Clone>(tree: &mut GroupTable<T>, row: u16, peaks: &[u64])
+    requires group { IsOfGroup tree.old row }
+    requires many { (p : Path) → IsSome (fin.get tree.old p) → row ≡ table_slot tree.old p → length peaks.now ≡ length p }
+    ensures { (p : Path) → IsSome (fin.get tree.old p) → row ≡ table_slot tree.old p → SetsPeaks tree.old tree.new p peaks.now }
 {
     tree.known();
-    let mut at = slot;
+    let mut at = row;
     for i in 0..peaks.len() {
         let attr = *tree.row(at);
         let above = tree.up(at);

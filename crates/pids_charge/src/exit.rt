@@ -1,6 +1,6 @@
 //! The exit of a process, and its undo.
 
-ghost use Rattle.std.specs.Prelude.{◌≡◌, ◌≢◌, [], None, IsSome, IsOk, IfSome, IfOk, IfErr, OnErr, OnOk, MatchOption};
+ghost use Rattle.std.specs.Prelude.{◌≡◌, ◌≢◌, [], None, IsSome, IsOk, IfSome, IfOk, OnErr, OnOk, MatchOption};
 ghost use Rattle.std.specs.FinMap as fin;
 ghost use Rattle.flat_model.specs.Command.{Exit};
 ghost use Rattle.flat_model.specs.Step.{home_of, refusal};
@@ -16,7 +16,7 @@ use crate::rows::{has_row, put_copy, take_row};
 use crate::slot::slot_in;
 use crate::walk::{charge_up, uncharge_up};
 use group_path::GroupPath;
-use std::alloc::Allocator;
+use std::alloc::{AllocError, Allocator};
 
 impl<A: Allocator + Clone, M: Meter> Charges<A, M> {
     /// The refusal that `exit` would return. It names no group. It is also that of a read of the process's group. Takes
@@ -56,17 +56,16 @@ impl<A: Allocator + Clone, M: Meter> Charges<A, M> {
     ///
     /// # Errors
     ///
-    /// `OutOfMemory`; nothing has changed then.
-    pub fn place<B: Allocator + Clone>(
+    /// `AllocError`; nothing has changed then.
+    pub fn put_process_back<B: Allocator + Clone>(
         &mut self,
         who: u8,
         pid: Pid,
         path: &GroupPath<B>,
-    ) -> Result<(), ChargeFault>
+    ) -> Result<(), AllocError>
         requires group { IsSome (fin.get self.old.groups path.now) }
         requires new { fin.get self.old.home pid ≡ None }
         ensures placed { OnOk result (self.new ≡ back (Exited pid path.now) self.old) }
-        ensures memory { IfErr result (λ f. f ≡ ChargeFault.OutOfMemory) }
         ensures kept { OnErr result (self.new ≡ self.old) }
     {
         self.tree.known();

@@ -1,6 +1,6 @@
 //! Forks: making a process, counting a fork that a limit refuses, and undoing that count.
 
-ghost use Rattle.std.specs.Prelude.{◌≡◌, ◌≢◌, ℕ, ◌<◌, ◌≤◌, true, false, Some, None, Err, IfSome, IfOk, IfErr, OnOk, OnErr, IsSome, is_some, MatchOption, length, take};
+ghost use Rattle.std.specs.Prelude.{◌≡◌, ◌≢◌, ℕ, ◌<◌, ◌≤◌, true, false, Some, None, Err, IfSome, IfOk, IfErr, IsTrue, OnOk, OnErr, is_some, MatchOption, length};
 ghost use Rattle.std.specs.BTreeMap.{insert_entry, is_at};
 ghost use Rattle.std.specs.List.Sorted.{IsStrictlySortedBy};
 ghost use Rattle.std.specs.Map.{keys_of, lookup};
@@ -8,29 +8,44 @@ ghost use Rattle.std.specs.Ordering.{nat_cmp};
 ghost use Rattle.flat_model.specs.CommandText.{IsPid};
 ghost use Rattle.process_table.specs.declared.process.Process.{Process};
 ghost use Rattle.flat_model.specs.Path.{Path};
-ghost use Rattle.flat_model.specs.Command.{Fork, OverPidsMax};
+ghost use Rattle.flat_model.specs.Command.{Fork};
 ghost use Rattle.flat_model.specs.Counts.{has_process};
-ghost use Rattle.flat_model.specs.Inverse.{back, Counted};
-ghost use Rattle.flat_model.specs.Step.{refusal, after, after_refusal, home_of, peaks_upward};
+ghost use Rattle.flat_model.specs.Inverse.{back, Counted, Forked};
+ghost use Rattle.flat_model.specs.Step.{refusal, home_of};
 ghost use Rattle.flat_model.specs.State.{State};
 ghost use Rattle.group_tree.specs.Groups.{Groups};
-ghost use Rattle.pids_charge.specs.Answers.{Does, refusal_of_fault, after_fault, names_in};
+ghost use Rattle.pids_charge.specs.Answers.{ForksTo, refusal_of_fault, after_fault, names_in};
 ghost use Rattle.pids_charge.specs.Events.{HasRoomForEvents, HasEvents};
 ghost use Rattle.pids_charge.specs.Lists.{process_in};
 ghost use Rattle.pids_charge.specs.Recount.{state_of};
 
-use crate::above::{Change, change_totals, slot_up};
+use crate::above::{Change, change_totals};
 use crate::charges::Charges;
 use crate::fault::ChargeFault;
 use crate::meter::Meter;
 use crate::notes::{nearest_full, note_up};
-use crate::peaks::{Peaks, charge_noted};
+use crate::peaks::{Peaks, charge_noted, set_list_up};
 use crate::pid::Pid;
-use crate::rows::{find_row, has_row, put_beside};
+use crate::rows::{find_row, has_row, put_row, take_row};
 use crate::slot::slot_in;
+use crate::walk::uncharge_up;
 use group_path::GroupPath;
 use process_table::{Process, ProcessTable};
 use std::alloc::{AllocError, Allocator};
+
+/// What becomes of a fork that has a parent and a new pid.
+#[derive(Drop)]
+pub enum ForkOutcome<A: Allocator + Clone> {
+    /// The process was made. These are the old peaks of its group and of those above it without the root, from the group upward.
+    Made(Peaks<A>),
+    /// A limit refused the fork, which was counted.
+    Counted {
+        /// The group with the limit.
+        path: GroupPath<A>,
+        /// The same path for another owner. They share a long text.
+        shared: GroupPath<A>,
+    },
+}
 
 // The parent of a new process, if there is a parent and no such child. Else the refusal, which names no group.
 fn find_parent<A: Allocator + Clone>(
@@ -56,18 +71,24 @@ fn find_parent<A: Allocator + Clone>(
     Ok(from)
 }
 
-// All memory for a process in the group of its parent: its row of the table, and a list of the old peaks.
+// A process in the group of another one, and charged at this leaf. They share the text of a long path.
+fn beside<A: Allocator + Clone>(from: &Process<A>, leaf: u8) -> Result<Process<A>, AllocError>
+    ensures { IfOk result (λ process. process ≡ process_in from.now.home from.now.slot leaf) }
+{
+    let home = from.home.share()?;
+    let slot = from.slot;
+    Ok(Process { home, slot, leaf })
+}
+
+// All memory for a process: its row of the table, and a list of the old peaks.
 fn admit<A: Allocator + Clone>(
     processes: &mut ProcessTable<A>,
     alloc: &A,
-    parent: Pid,
     child: Pid,
-    leaf: u8,
+    process: Process<A>,
     peaks: &[u64],
 ) -> Result<Peaks<A>, AllocError>
-    requires { IsSome (lookup (is_at (nat_cmp parent)) processes.old) }
-    ensures entries { OnOk result ((from : Process A) → lookup (is_at (nat_cmp parent)) processes.old ≡ Some from → processes.new ≡ insert_entry nat_cmp processes.old child (process_in from.home from.slot leaf)) }
-    ensures found { OnOk result ((from : Process A) → lookup (is_at (nat_cmp parent)) processes.old ≡ Some from → lookup (is_at (nat_cmp child)) processes.new ≡ Some (process_in from.home from.slot leaf)) }
+    ensures entries { OnOk result (processes.new ≡ insert_entry nat_cmp processes.old child process) }
     ensures ordered { IsStrictlySortedBy nat_cmp (keys_of processes.new) }
     ensures peaks { IfOk result (λ list. list ≡ peaks.now) }
     ensures kept { OnErr result (processes.new ≡ processes.old) }
@@ -76,7 +97,7 @@ fn admit<A: Allocator + Clone>(
     processes.known();
     child.get();
     let list = Peaks::copy_of(alloc, peaks)?;
-    put_beside(processes, parent, child, leaf)?;
+    let _ = put_row(processes, child, process)?;
     Ok(list)
 }
 
@@ -97,8 +118,8 @@ impl<A: Allocator + Clone, M: Meter> Charges<A, M> {
             Err(fault) => return Some(fault),
         };
         self.tree.known();
-        if let Some(n) = nearest_full(&self.tree, &mut self.meter, &process.home, process.slot) {
-            return Some(ChargeFault::PidsMax(n));
+        if let Some(full) = nearest_full(&self.tree, &mut self.meter, &process.home, process.slot) {
+            return Some(ChargeFault::PidsMax(full.names));
         }
         None
     }
@@ -118,100 +139,78 @@ impl<A: Allocator + Clone, M: Meter> Charges<A, M> {
         }
     }
 
-    /// Makes a process in the group of its parent, charged at the leaf of `who`, unless a limit refuses it. Raises the peaks
-    /// of that group and of those above it other than the root. Returns their old peaks, from the group upward. Counts no
-    /// refusal. Costs some steps for each of these groups, and no descent of the tree.
+    /// Makes a process in the group of its parent, charged at the leaf of `who`, and raises the peaks of that group and of those
+    /// above it other than the root. If the `pids.max` of one of these groups refuses it, counts the refused fork at the nearest
+    /// such group: adds one to the local total of that group, and one to the totals of that group and of the groups above it other
+    /// than the root. `can_count` says that the totals have room for one more. Costs some steps for each of these groups, and no
+    /// descent of the tree.
     ///
     /// # Errors
     ///
-    /// `PidsMax`, as `fork` names it, then `OutOfMemory`. Nothing has changed then.
-    pub fn try_process(&mut self, who: u8, parent: Pid, child: Pid) -> Result<Peaks<A>, ChargeFault>
-        requires parent { has_process self.old parent ≡ true }
-        requires child { has_process self.old child ≡ false }
-        ensures made { OnOk result ((refusal M.SLOTS self.old (Fork parent child) ≡ None) × (self.new ≡ after self.old (Fork parent child))) }
-        ensures peaks { IfOk result (λ peaks. peaks ≡ peaks_upward self.old (home_of self.old parent)) }
-        ensures first { IfErr result (λ f. refusal M.SLOTS self.old (Fork parent child) ≡ refusal_of_fault (home_of self.old parent) f) }
-        ensures limit { (n : ℕ) → result ≡ Err (ChargeFault.PidsMax n) → (0 < n) × (n ≤ length (home_of self.old parent)) }
-        ensures memory { IfErr result (λ f. ((n : ℕ) → f ≢ ChargeFault.PidsMax n) → f ≡ ChargeFault.OutOfMemory) }
+    /// The first of these that applies: `NoProcess` of the parent, `PidInUse` of the child, `OutOfMemory`, also for a fork that is
+    /// refused and can't be counted. Nothing has changed then.
+    pub fn fork_or_count(
+        &mut self,
+        who: u8,
+        parent: Pid,
+        child: Pid,
+        can_count: bool,
+    ) -> Result<ForkOutcome<A>, ChargeFault>
+        requires { IsTrue can_count → HasRoomForEvents self.old }
+        ensures forked { IfOk result (λ forked. ForksTo M.SLOTS self.old parent child forked self.new) }
+        ensures first { IfErr result (λ f. f ≢ ChargeFault.OutOfMemory → refusal M.SLOTS self.old (Fork parent child) ≡ refusal_of_fault (home_of self.old parent) f) }
+        ensures no_limit { IfErr result (λ f. (n : ℕ) → f ≢ ChargeFault.PidsMax n) }
         ensures kept { OnErr result (self.new ≡ self.old) }
     {
         self.tree.known();
-        let Some(from) = find_row(&self.processes, parent) else {
-            unreachable!()
-        };
-        let slot = from.slot;
-        if let Some(n) = nearest_full(&self.tree, &mut self.meter, &from.home, slot) {
-            return Err(ChargeFault::PidsMax(n));
+        let from = find_parent(&self.processes, parent, child)?;
+        let row = from.slot;
+        if let Some(full) = nearest_full(&self.tree, &mut self.meter, &from.home, row) {
+            if !can_count {
+                return Err(ChargeFault::OutOfMemory);
+            }
+            let path = from.home.front(self.alloc.clone()?, full.names)?;
+            let shared = path.share()?;
+            change_totals(
+                &mut self.tree,
+                &from.home,
+                full.names,
+                full.row,
+                Change::Raise,
+            );
+            self.tree.known();
+            return Ok(ForkOutcome::Counted { path, shared });
         }
-        let notes = note_up(&self.tree, &from.home, slot);
+        let notes = note_up(&self.tree, &from.home, row);
         let leaf = who % M::LEAVES;
+        let process = beside(from, leaf)?;
         let peaks = admit(
             &mut self.processes,
             &self.alloc,
-            parent,
             child,
-            leaf,
+            process,
             notes.peaks(),
         )?;
-        let Some(process) = find_row(&self.processes, child) else {
-            unreachable!()
-        };
-        charge_noted(
-            &mut self.tree,
-            &mut self.meter,
-            &process.home,
-            slot,
-            leaf,
-            &notes,
-        );
-        Ok(peaks)
+        charge_noted(&mut self.tree, &mut self.meter, row, leaf, &notes);
+        Ok(ForkOutcome::Made(peaks))
     }
 
-    /// Counts a fork that the group at the first `n` names of the parent's path refuses. Adds one to the local total of that
-    /// group, and one to the totals of that group and of the groups above it other than the root. Allocates nothing. Does not
-    /// descend the tree.
-    pub fn count_fork(&mut self, parent: Pid, n: usize)
-        requires parent { has_process self.old parent ≡ true }
-        requires below_root { 0 < n }
-        requires at { n ≤ length (home_of self.old parent) }
-        requires room { HasRoomForEvents self.old }
-        ensures { self.new ≡ after_refusal self.old (OverPidsMax (take n (home_of self.old parent))) }
+    /// Undoes a fork: removes the process, and sets the peaks of its group and of those above it, without the root. There is
+    /// one peak for each, from the group upward. Allocates nothing, and does not descend the tree.
+    pub fn unfork<B: Allocator + Clone>(&mut self, who: u8, pid: Pid, peaks: &Peaks<B>)
+        requires process { has_process self.old pid ≡ true }
+        requires many { length peaks.now ≡ length (home_of self.old pid) }
+        ensures { self.new ≡ back (Forked pid peaks.now) self.old }
     {
-        let Some(process) = find_row(&self.processes, parent) else {
+        self.tree.known();
+        let Some(process) = take_row(&mut self.processes, pid) else {
             unreachable!()
         };
+        let stripe = who % M::LEAVES;
+        uncharge_up(&self.tree, &mut self.meter, &process, stripe);
+        process.home.known();
+        set_list_up(&mut self.tree, process.slot, peaks);
         self.tree.known();
-        let home = &process.home;
-        let at = slot_up(&self.tree, home, n, process.slot);
-        change_totals(&mut self.tree, home, n, at, Change::Raise);
-        self.tree.known();
-    }
-
-    /// Makes a process in the group of its parent, charged at the leaf of `who`. Raises the peaks of that group and of those
-    /// above it other than the root. Returns their old peaks, from the group upward. Costs some steps for each of these
-    /// groups, and no descent of the tree, whether a limit refuses it or not.
-    ///
-    /// # Errors
-    ///
-    /// The first of these that applies: `NoProcess` of the parent, `PidInUse` of the child, `PidsMax`, `OutOfMemory`.
-    /// `PidsMax(n)` names the nearest group, from the parent's upward, whose `pids.max` one more process would exceed: its
-    /// path is the first n names of the parent's path. `PidsMax` counts the refused fork: it adds one to the local total of
-    /// that group, and one to the totals of that group and of the groups above it other than the root. Nothing else changes,
-    /// no peak either. The other three change nothing.
-    pub fn fork(&mut self, who: u8, parent: Pid, child: Pid) -> Result<Peaks<A>, ChargeFault>
-        requires { HasRoomForEvents self.old }
-        ensures state { Does M.SLOTS self.old (Fork parent child) (home_of self.old parent) result self.new }
-        ensures inside { IfErr result (λ f. names_in f ≤ length (home_of self.old parent)) }
-        ensures peaks { IfOk result (λ peaks. peaks ≡ peaks_upward self.old (home_of self.old parent)) }
-    {
-        if let Some(fault) = self.refuses_pids(parent, child) {
-            return Err(fault);
-        }
-        let made = self.try_process(who, parent, child);
-        if let Err(ChargeFault::PidsMax(n)) = &made {
-            self.count_fork(parent, *n);
-        }
-        made
     }
 
     /// Undoes the count of one refused fork. `path` is the group that refused it. Subtracts one from its local total, and

@@ -1,6 +1,6 @@
 //! Killing all processes of a group.
 
-ghost use Rattle.std.specs.Prelude.{◌≡◌, ◌≢◌, ℕ, ◌+◌, ◌≤◌, ◌++◌, [], None, IsSome, IfSome, IfOk, IfErr, MatchOption, length};
+ghost use Rattle.std.specs.Prelude.{◌≡◌, ◌≢◌, ℕ, ◌+◌, ◌≤◌, ◌++◌, [], None, IsSome, IfSome, IfOk, OnOk, OnErr, MatchOption, length};
 ghost use Rattle.std.specs.List.{All, sum_by};
 ghost use Rattle.std.specs.List.Sorted.{IsStrictlySortedBy};
 ghost use Rattle.std.specs.Ordering.{nat_cmp};
@@ -12,28 +12,25 @@ ghost use Rattle.flat_model.specs.Command.{Kill};
 ghost use Rattle.flat_model.specs.CommandText.{IsPid};
 ghost use Rattle.flat_model.specs.Inverse as inverse;
 ghost use Rattle.flat_model.specs.Path.{Path};
-ghost use Rattle.flat_model.specs.Step.{refusal};
-ghost use Rattle.pids_charge.specs.Answers.{Does, refusal_of_fault, after_fault, names_in};
+ghost use Rattle.flat_model.specs.Step.{after, refusal};
+ghost use Rattle.pids_charge.specs.Answers.{refusal_of_fault, after_fault, names_in};
 ghost use Rattle.snzi_tokens.specs.Listed.{IsWithin, listed_at};
 ghost use Rattle.pids_charge.specs.Lists.{inside, lost_each, lost_one, without_each};
 ghost use Rattle.pids_charge.specs.Recount.{charges_of, IsPlaced, SlotsBelow};
 
 use crate::charges::Charges;
 use crate::fault::ChargeFault;
-use crate::gate::Gate;
 use crate::groups::GroupTable;
 use crate::inside::pids_inside;
 use crate::lost::{Lost, LostList};
 use crate::meter::Meter;
 use crate::pid::Pid;
-use crate::settler::{Settler, with_threads};
+use crate::settler::Settler;
 use crate::walk::push_up;
 use group_path::GroupPath;
 use process_table::ProcessTable;
 use snzi_tokens::Token;
 use std::alloc::{AllocError, Allocator};
-use std::sync::Wait;
-use std::thread::Threads;
 
 // The processes that a kill removes, and their charges.
 #[derive(Drop)]
@@ -139,45 +136,25 @@ impl<A: Allocator + Clone, M: Meter> Charges<A, M> {
         None
     }
 
-    /// Removes all processes at or below the group, and returns each with its path; pids ascend. Costs time in the number
-    /// of these processes, plus a look at each row, and a walk up from each that has processes. Passes all charges to the
-    /// meter at once. It may wait for the threads that do parts of the settlement.
+    /// Removes all processes at or below a group that `kill` would not refuse, and returns each with its path; pids ascend.
+    /// Costs time in the number of these processes, plus a look at each row, and a walk up from each that has processes.
+    /// Passes all charges to the meter at once, by this settler.
     ///
     /// # Errors
     ///
-    /// The first of these that applies: `NoFile` for the root, `NoGroup`, `OutOfMemory`. Nothing has changed then.
-    pub fn kill<R: Threads + Wait + Sync, B: Allocator + Clone>(
-        &mut self,
-        rt: &R,
-        gate: &(dyn Gate + Sync),
-        who: u8,
-        path: &GroupPath<B>,
-    ) -> Result<LostList<A>, ChargeFault>
-        ensures state { Does M.SLOTS self.old (Kill path.now) path.now result self.new }
-        ensures inside { IfErr result (λ f. names_in f ≤ length path.now) }
-        ensures taken { IfOk result (λ list. list ≡ inverse.lost self.old path.now) }
-    {
-        self.kill_by(&with_threads(rt, gate), who, path)
-    }
-
-    /// `kill` by this settler.
-    ///
-    /// # Errors
-    ///
-    /// Those of `kill`.
-    pub fn kill_by<S: Settler, B: Allocator + Clone>(
+    /// `AllocError`; nothing has changed then.
+    pub fn take_processes<S: Settler, B: Allocator + Clone>(
         &mut self,
         settler: &S,
         who: u8,
         path: &GroupPath<B>,
-    ) -> Result<LostList<A>, ChargeFault>
-        ensures state { Does M.SLOTS self.old (Kill path.now) path.now result self.new }
-        ensures inside { IfErr result (λ f. names_in f ≤ length path.now) }
+    ) -> Result<LostList<A>, AllocError>
+        requires { refusal M.SLOTS self.old (Kill path.now) ≡ None }
+        ensures state { OnOk result (self.new ≡ after self.old (Kill path.now)) }
         ensures taken { IfOk result (λ list. list ≡ inverse.lost self.old path.now) }
+        ensures kept { OnErr result (self.new ≡ self.old) }
     {
-        if let Some(fault) = self.refuses_kill(path) {
-            return Err(fault);
-        }
+        self.tree.known();
         let Gathered { pids, tokens, room } = gather::<M, _, _, _>(
             &self.tree,
             &self.processes,

@@ -10,17 +10,19 @@
 //!   group above it other than the root. Moves are never refused by a limit, and a limit may be set below what there is.
 //! - The peak of a group other than the root is the most processes that were at or below it at once. A fork and a move raise
 //!   the peaks along the new path of the process, once it is there, and return the old peaks. A refused fork raises no peak.
-//!   Only `set_peaks` and `restore_peaks` lower one.
+//!   Only `set_peaks`, `unfork` and `unmove` lower one.
 //! - Refusals come in a fixed order, out of memory last, and change nothing but those totals.
-//! - Each command has an undo that tests no limit: `restore` for a removal, `place` for an exit, `place_all` for a kill,
-//!   `uncount` for a refused fork, `move_back` for a move, and `restore_peaks` for the peaks that a fork or a move raised. A
-//!   limit is undone by setting the old one. None of them raises a peak.
+//! - Each command has an undo that tests no limit: `put_group_back` for a removal, `put_process_back` for an exit,
+//!   `put_processes_back` for a kill, `unfork` for a fork, `uncount` for a refused one, and `unmove` for a move. `unfork` and `unmove` restore the peaks that the
+//!   fork or the move raised. A limit is undone by setting the old one. None of them raises a peak.
 //! - For each command one call only decides: `refuses_mkdir`, `refuses_rmdir`, `refuses_fork`, `refuses_exit`,
 //!   `refuses_move`, `refuses_limit` and `refuses_kill` return its first refusal, if there is one, and allocate nothing.
-//!   `refuses_pids` is the part of `refuses_fork` that looks at no limit. `make_group`, `take_group` and `count_fork` only do
-//!   what was decided. `try_process` is a fork that counts no refusal. They are for a caller that allocates something of its
-//!   own in between.
-//! - `exit`, `set_peaks`, `restore_peaks`, `count_fork`, `uncount`, `rmdir`, `set_limit`, the readers and the calls that only
+//!   `refuses_pids` is the part of `refuses_fork` that looks at no limit. `make_group`, `take_group` and `take_processes` only
+//!   do what was decided. They are for a caller that allocates something of its own in between. `fork_or_count` and
+//!   `move_process` decide and act in one look-up, and return the paths that a caller records.
+//! - A call that can only run out of memory returns `AllocError`. A call that also decides a refusal returns a `ChargeFault`,
+//!   where out of memory is one of the faults. `src/specified.rt` has the calls that only the specification names.
+//! - `exit`, `unfork`, `set_peaks`, `count_fork`, `uncount`, `rmdir`, `set_limit`, the readers and the calls that only
 //!   decide allocate nothing. `new` allocates the tables of free slots and of hints. Rows, and the paths that they
 //!   keep, are allocated as groups are made. The list of old peaks of a fork or a move takes memory only if it has more than
 //!   `INLINE_PEAKS`, or one of 2^32 or more.
@@ -35,8 +37,8 @@
 //!   bytes are kept in their rows, longer ones in an allocation.
 //! - The processes of a group share the text of a long path. A child takes it from its parent; a process that is moved, put
 //!   back or copied takes it from one that is in the group, if there is one, and else gets a copy.
-//! - `kill_by` and `place_all_by` are `kill` and `place_all` by a `Settler`: `Alone` settles on the calling thread and needs
-//!   no runtime, `with_threads` is what `kill` and `place_all` use.
+//! - `take_processes` and `put_processes_back` settle their charges by a `Settler`: `Alone` settles on the calling thread and
+//!   needs no runtime, `with_threads` starts threads, as `kill` and `place_all` do.
 //! - `child_names` returns the names of a group's children, in order.
 //! - Any meter that meets the law of `Meter` will do. `PlainMeter` keeps plain numbers, for one thread.
 //! - A kill and its undo pass all their charges to a meter at once, which settles them in 2 to 8 parts (`part_count`,
@@ -80,14 +82,16 @@ mod rmdir;
 mod rows;
 mod settler;
 mod slot;
+mod specified;
 mod walk;
 
 pub use charges::Charges;
 pub use fault::ChargeFault;
+pub use fork::ForkOutcome;
 pub use gate::{Gate, OpenGate};
 pub use lost::{Lost, LostList};
 pub use meter::{HELD_MAX, Meter};
-pub use migrate::Shifted;
+pub use migrate::{Migrated, Shifted};
 pub use parts::{last_run, part_count};
 pub use peaks::{INLINE_PEAKS, Peaks};
 pub use pid::{PID_MAX, Pid};

@@ -4,7 +4,7 @@ ghost use Rattle.std.specs.Prelude.{◌≡◌, ◌≢◌, ◌≤◌, true, lengt
 ghost use Rattle.std.specs.FinMap as fin;
 ghost use Rattle.flat_model.specs.Command.{Move};
 ghost use Rattle.flat_model.specs.Counts.{has_process};
-ghost use Rattle.flat_model.specs.Inverse.{back, Exited};
+ghost use Rattle.flat_model.specs.Inverse.{back, Moved};
 ghost use Rattle.flat_model.specs.State.{State};
 ghost use Rattle.flat_model.specs.Step.{home_of, peaks_upward, refusal};
 ghost use Rattle.pids_charge.specs.Answers.{Does, refusal_of_fault, after_fault, names_in};
@@ -16,20 +16,29 @@ use crate::fault::ChargeFault;
 use crate::groups::GroupTable;
 use crate::meter::Meter;
 use crate::notes::note_up;
-use crate::peaks::{Peaks, charge_noted};
+use crate::peaks::{Peaks, charge_noted, set_list_up};
 use crate::pid::Pid;
-use crate::rows::{has_row, put_copy};
+use crate::rows::{has_row, put_copy, put_shared};
 use crate::slot::slot_in;
 use crate::walk::{charge_up, uncharge_up};
 use group_path::GroupPath;
 use process_table::ProcessTable;
-use std::alloc::Allocator;
+use std::alloc::{AllocError, Allocator};
 
 /// What a move leaves behind: the old group of the process, and the old peaks of the groups along its new path.
 #[derive(Drop)]
 pub struct Shifted<A: Allocator + Clone> {
     pub path: GroupPath<A>,
     pub peaks: Peaks<A>,
+}
+
+/// What a move leaves behind, and the new path of the process, in the allocator of the charges.
+#[derive(Drop)]
+pub struct Migrated<A: Allocator + Clone> {
+    /// The group that it moved to. A long text is shared with the process.
+    pub to: GroupPath<A>,
+    /// What it left.
+    pub left: Shifted<A>,
 }
 
 // The slot of the group in the table of processes, if the process may move there. Else the refusal.
@@ -75,22 +84,24 @@ impl<A: Allocator + Clone, M: Meter> Charges<A, M> {
     }
 
     /// Moves a process to the group, where it is charged at the leaf of `who`, and then raises the peaks of the group and of
-    /// those above it other than the root. Returns its old group, by the path that the table had, and the old peaks of the
-    /// groups along the new path. Tests no limit. Costs at most one descent of the tree.
+    /// those above it other than the root. Returns its old group, by the path that the table had, the old peaks of the groups
+    /// along the new path, and that path. Tests no limit. Costs at most one descent of the tree.
     ///
     /// # Errors
     ///
     /// The first of these that applies: `NoGroup`, `NoProcess`, `OutOfMemory`. Nothing has changed then.
-    pub fn migrate<B: Allocator + Clone>(
+    pub fn move_process<B: Allocator + Clone>(
         &mut self,
         who: u8,
         pid: Pid,
         path: &GroupPath<B>,
-    ) -> Result<Shifted<A>, ChargeFault>
+    ) -> Result<Migrated<A>, ChargeFault>
         ensures state { Does M.SLOTS self.old (Move path.now pid) path.now result self.new }
         ensures inside { IfErr result (λ f. names_in f ≤ length path.now) }
-        ensures old_home { IfOk result (λ shifted. shifted.path ≡ home_of self.old pid) }
-        ensures peaks { IfOk result (λ shifted. shifted.peaks ≡ peaks_upward self.old path.now) }
+        ensures new_home { IfOk result (λ moved. moved.to ≡ path.now) }
+        ensures old_home { IfOk result (λ moved. moved.left.path ≡ home_of self.old pid) }
+        ensures peaks { IfOk result (λ moved. moved.left.peaks ≡ peaks_upward self.old path.now) }
+        ensures kept { OnErr result (self.new ≡ self.old) }
     {
         let slot = slot_for::<M, _, _, _>(&self.tree, &self.processes, path, pid)?;
         let notes = note_up(&self.tree, path, slot);
@@ -98,36 +109,37 @@ impl<A: Allocator + Clone, M: Meter> Charges<A, M> {
         self.tree.known();
         path.known();
         let leaf = who % M::LEAVES;
-        let replaced = put_copy(&mut self.processes, &self.alloc, pid, path, slot, leaf)?;
+        let (to, replaced) = put_shared(&mut self.processes, &self.alloc, pid, path, slot, leaf)?;
         let Some(before) = replaced else {
             unreachable!()
         };
         uncharge_up(&self.tree, &mut self.meter, &before, leaf);
-        charge_noted(&mut self.tree, &mut self.meter, path, slot, leaf, &notes);
-        Ok(Shifted {
+        charge_noted(&mut self.tree, &mut self.meter, slot, leaf, &notes);
+        let left = Shifted {
             path: before.home,
             peaks,
-        })
+        };
+        Ok(Migrated { to, left })
     }
 
-    /// Puts a process into another group, charged at the leaf of `who`, and raises no peak. Together with `restore_peaks` it
-    /// undoes a move. Returns its old group, by the path that the table had. Tests no limit. Costs at most one descent of the
-    /// tree.
+    /// Undoes a move: puts the process into its old group, charged at the leaf of `who`, and sets the peaks of the group that
+    /// it leaves and of those above it, without the root. There is one peak for each, from the group upward. Tests no limit.
+    /// Costs at most one descent of the tree.
     ///
     /// # Errors
     ///
-    /// `OutOfMemory`; nothing has changed then.
-    pub fn move_back<B: Allocator + Clone>(
+    /// `AllocError`; nothing has changed then.
+    pub fn unmove<B: Allocator + Clone>(
         &mut self,
         who: u8,
         pid: Pid,
         path: &GroupPath<B>,
-    ) -> Result<GroupPath<A>, ChargeFault>
+        peaks: &Peaks<B>,
+    ) -> Result<(), AllocError>
         requires group { IsSome (fin.get self.old.groups path.now) }
         requires process { has_process self.old pid ≡ true }
-        ensures placed { OnOk result (self.new ≡ back (Exited pid path.now) self.old) }
-        ensures old_home { IfOk result (λ home. home ≡ home_of self.old pid) }
-        ensures memory { IfErr result (λ f. f ≡ ChargeFault.OutOfMemory) }
+        requires many { length peaks.now ≡ length (home_of self.old pid) }
+        ensures placed { OnOk result (self.new ≡ back (Moved pid path.now peaks.now) self.old) }
         ensures kept { OnErr result (self.new ≡ self.old) }
     {
         self.tree.known();
@@ -140,6 +152,8 @@ impl<A: Allocator + Clone, M: Meter> Charges<A, M> {
         };
         uncharge_up(&self.tree, &mut self.meter, &before, leaf);
         charge_up(&self.tree, &mut self.meter, path, slot, leaf);
-        Ok(before.home)
+        set_list_up(&mut self.tree, before.slot, peaks);
+        self.tree.known();
+        Ok(())
     }
 }

@@ -1,9 +1,9 @@
 //! Making groups.
 
-ghost use Rattle.std.specs.Prelude.{◌≡◌, ◌≢◌, ◌≤◌, length, None, IfSome, IfErr, OnErr, OnOk, MatchOption};
+ghost use Rattle.std.specs.Prelude.{◌≡◌, ◌≢◌, ◌≤◌, length, None, IfSome, OnErr, OnOk, MatchOption};
 ghost use Rattle.flat_model.specs.Command.{MakeGroup};
 ghost use Rattle.flat_model.specs.Step.{refusal, after};
-ghost use Rattle.pids_charge.specs.Answers.{Does, refusal_of_fault, after_fault, names_in};
+ghost use Rattle.pids_charge.specs.Answers.{refusal_of_fault, after_fault, names_in};
 
 use crate::charges::Charges;
 use crate::fault::ChargeFault;
@@ -11,7 +11,7 @@ use crate::hierarchy::{MetLimit, first_met};
 use crate::meter::Meter;
 use group_path::GroupPath;
 use group_tree::Attr;
-use std::alloc::Allocator;
+use std::alloc::{AllocError, Allocator};
 
 impl<A: Allocator + Clone, M: Meter> Charges<A, M> {
     /// The refusal that `mkdir` would return, apart from memory. Costs at most two descents of the tree, and a step for each group
@@ -43,34 +43,15 @@ impl<A: Allocator + Clone, M: Meter> Charges<A, M> {
     ///
     /// # Errors
     ///
-    /// `OutOfMemory`; nothing has changed then.
+    /// `AllocError`; nothing has changed then.
     pub fn make_group<B: Allocator + Clone>(
         &mut self,
         path: &GroupPath<B>,
-    ) -> Result<(), ChargeFault>
+    ) -> Result<(), AllocError>
         requires { refusal M.SLOTS self.old (MakeGroup path.now) ≡ None }
         ensures made { OnOk result (self.new ≡ after self.old (MakeGroup path.now)) }
-        ensures memory { IfErr result (λ f. f ≡ ChargeFault.OutOfMemory) }
         ensures kept { OnErr result (self.new ≡ self.old) }
     {
-        self.restore(path, Attr::new(0))
-    }
-
-    /// Makes a group under an existing one, with no limits and event totals of 0, on a free slot. Costs at most four descents of
-    /// the tree: the group and its parent are looked up, the parent again, and the group is inserted. The limits above it are
-    /// tested from row to row.
-    ///
-    /// # Errors
-    ///
-    /// The first of these that applies: `Exists`; `NoGroup` of the parent; `Descendants` or `Depth` of the first group from
-    /// the parent upward whose limit is met; `NoSlot`; `OutOfMemory`. Nothing has changed then.
-    pub fn mkdir<B: Allocator + Clone>(&mut self, path: &GroupPath<B>) -> Result<(), ChargeFault>
-        ensures state { Does M.SLOTS self.old (MakeGroup path.now) path.now result self.new }
-        ensures inside { IfErr result (λ f. names_in f ≤ length path.now) }
-    {
-        if let Some(fault) = self.refuses_mkdir(path) {
-            return Err(fault);
-        }
-        self.make_group(path)
+        self.put_group_back(path, Attr::new(0))
     }
 }

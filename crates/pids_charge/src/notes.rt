@@ -1,6 +1,6 @@
 //! What walks up from a group note: the nearest full group, and the slots and the peaks of the group and those above it.
 
-ghost use Rattle.std.specs.Prelude.{◌≡◌, ◌<◌, ◌≤◌, ◌++◌, ◌∷◌, [], length, IfSome, IsSome, Some};
+ghost use Rattle.std.specs.Prelude.{◌≡◌, ◌<◌, ◌≤◌, ◌++◌, ◌∷◌, [], length, option_map, take, IfSome, IsSome, Some};
 ghost use Rattle.std.specs.FinMap as fin;
 ghost use Rattle.pids_charge.specs.Events.{full_by, longest};
 ghost use Rattle.pids_charge.specs.Lists.{table_slot};
@@ -67,7 +67,8 @@ impl Notes {
 
     // The peaks, from the path's own group upward.
     pub(crate) fn peaks(&self) -> &[u64]
-        ensures { result.now ≡ self.now.peaks }
+        ensures same { result.now ≡ self.now.peaks }
+        ensures few { length result.now ≤ 32 }
     {
         &self.peaks[..self.len]
     }
@@ -86,19 +87,27 @@ fn is_full<M: Meter>(meter: &mut M, attr: &Attr) -> bool
     }
 }
 
-// The nearest group, from the path's upward, whose `pids.max` one more process would exceed, as its number of names. `slot`
-// is where the processes of the path's group are in their table. Does not descend the tree.
+// A group whose `pids.max` refuses a fork: how many names its path has, and its row.
+#[derive(Clone, Copy)]
+pub(crate) struct FullGroup {
+    pub(crate) names: usize,
+    pub(crate) row: u16,
+}
+
+// The nearest group, from the path's upward, whose `pids.max` one more process would exceed. `slot` is the row of the path's
+// group. Does not descend the tree.
 pub(crate) fn nearest_full<T: Allocator + Clone, M: Meter, A: Allocator + Clone>(
     tree: &GroupTable<T>,
     meter: &mut M,
     path: &GroupPath<A>,
     slot: u16,
-) -> Option<usize>
+) -> Option<FullGroup>
     requires home { IsSome (fin.get tree.now path.now) }
     requires slot { slot ≡ table_slot tree.now path.now }
     requires slots { SlotsBelow M.SLOTS tree.now }
-    ensures answer { result ≡ longest (λ a. full_by M.LEAVES (M.content meter.old) (fin.get tree.now a)) path.now (length path.now) }
-    ensures inside { IfSome result (λ n. (0 < n) × (n ≤ length path.now)) }
+    ensures answer { option_map (λ full. full.names) result ≡ longest (λ a. full_by M.LEAVES (M.content meter.old) (fin.get tree.now a)) path.now (length path.now) }
+    ensures row { IfSome result (λ full. full.row ≡ table_slot tree.now (take full.names path.now)) }
+    ensures inside { IfSome result (λ full. (0 < full.names) × (full.names ≤ length path.now)) }
     ensures content { M.content meter.new ≡ M.content meter.old }
     ensures held { M.held meter.new ≡ M.held meter.old }
 {
@@ -110,7 +119,8 @@ pub(crate) fn nearest_full<T: Allocator + Clone, M: Meter, A: Allocator + Clone>
             break;
         }
         if is_full(meter, tree.row(at)) {
-            return Some(path.depth() - up);
+            let names = path.depth() - up;
+            return Some(FullGroup { names, row: at });
         }
         at = tree.up(at);
     }

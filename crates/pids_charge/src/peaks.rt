@@ -1,21 +1,19 @@
 //! The peaks of groups: raised along a path when a process enters, and set again by an undo.
 
-ghost use Rattle.std.specs.Prelude.{◌≡◌, ◌↔◌, ℕ, ◌+◌, ◌^◌, ◌<◌, ◌≤◌, max, length, get_or, take, None, IfOk, IsOk, IsSome, IsTrue, option_map};
+ghost use Rattle.std.specs.Prelude.{◌≡◌, ◌↔◌, ℕ, ◌+◌, ◌^◌, ◌<◌, ◌≤◌, max, length, get_or, take, IfOk, IsOk, IsSome, IsTrue, option_map};
 ghost use Rattle.std.specs.List.{All, sum_by};
 ghost use Rattle.std.specs.FinMap as fin;
 ghost use Rattle.flat_model.specs.Path.{Path};
-ghost use Rattle.flat_model.specs.Step as flat;
 ghost use Rattle.snzi_tokens.specs.Listed.{one_at, over_leaves};
 ghost use Rattle.pids_charge.specs.Peaks.{peak_of, raised_by, AreUpward, IsNoted, SetsPeaks};
+ghost use Rattle.pids_charge.specs.GroupRows.{IsOfGroup};
 ghost use Rattle.pids_charge.specs.Lists.{table_slot};
 ghost use Rattle.pids_charge.specs.Recount.{SlotsBelow, SameSlots, with_charges};
 
 use crate::above::set_peaks_up;
-use crate::charges::Charges;
 use crate::groups::GroupTable;
 use crate::meter::{HELD_MAX, Meter};
 use crate::notes::{DEPTH_MAX, Notes};
-use group_path::GroupPath;
 use std::alloc::{AllocError, Allocator, Global};
 use std::marker::Model;
 use std::mem::size_of;
@@ -221,104 +219,70 @@ fn reach<M: Meter>(meter: &mut M, slots: &[u16], peaks: &[u64], reached: &mut [u
     }
 }
 
-// Sets the peaks of the groups from the path's own upward, unless they are these already. `peaks` has those that they are.
-fn raise_along<T: Allocator + Clone, A: Allocator + Clone>(
+// Sets the peaks of the group in a row and of those above it without the root, unless they are these already. `peaks` has
+// those that they are.
+fn raise_along<T: Allocator + Clone>(
     tree: &mut GroupTable<T>,
-    path: &GroupPath<A>,
-    slot: u16,
+    row: u16,
     peaks: &[u64],
     reached: &[u64],
 )
-    requires home { IsSome (fin.get tree.old path.now) }
-    requires slot { slot ≡ table_slot tree.old path.now }
-    requires noted { AreUpward peak_of tree.old path.now peaks.now }
-    requires many { length reached.now ≡ length path.now }
-    ensures set { SetsPeaks tree.old tree.new path.now reached.now }
+    requires group { IsOfGroup tree.old row }
+    requires noted { (p : Path) → IsSome (fin.get tree.old p) → row ≡ table_slot tree.old p → AreUpward peak_of tree.old p peaks.now }
+    requires many { (p : Path) → IsSome (fin.get tree.old p) → row ≡ table_slot tree.old p → length reached.now ≡ length p }
+    ensures set { (p : Path) → IsSome (fin.get tree.old p) → row ≡ table_slot tree.old p → SetsPeaks tree.old tree.new p reached.now }
     ensures slots { SameSlots tree.old tree.new }
 {
     tree.known();
     if *reached == *peaks {
         return;
     }
-    set_peaks_up(tree, path, slot, reached);
+    set_peaks_up(tree, row, reached);
     tree.known();
 }
 
-// Adds one charge at each group along the path, by their slots, and raises peaks that are lower than their counts. Does not
-// descend the tree.
-pub(crate) fn charge_noted<T: Allocator + Clone, M: Meter, A: Allocator + Clone>(
+// Adds one charge at each of the noted groups, which are the one in a row and those above it without the root, and raises
+// peaks that are lower than their counts. Does not descend the tree.
+pub(crate) fn charge_noted<T: Allocator + Clone, M: Meter>(
     tree: &mut GroupTable<T>,
     meter: &mut M,
-    path: &GroupPath<A>,
-    slot: u16,
+    row: u16,
     leaf: u8,
     notes: &Notes,
 )
     requires leaf_below { leaf < M.LEAVES }
-    requires home { IsSome (fin.get tree.old path.now) }
-    requires slot { slot ≡ table_slot tree.old path.now }
+    requires group { IsOfGroup tree.old row }
+    requires noted { (p : Path) → IsSome (fin.get tree.old p) → row ≡ table_slot tree.old p → IsNoted tree.old p notes.now }
     requires slots { SlotsBelow M.SLOTS tree.old }
-    requires room { M.held meter.old + length path.now ≤ HELD_MAX }
-    requires noted { IsNoted tree.old path.now notes.now }
-    ensures content { (s j : ℕ) → M.content meter.new s j ≡ with_charges tree.old path.now leaf (M.content meter.old) s j }
-    ensures held { M.held meter.new ≡ M.held meter.old + length path.now }
-    ensures raised { (q : Path) → fin.get tree.new q ≡ option_map (raised_by M.LEAVES (with_charges tree.old path.now leaf (M.content meter.old)) path.now q) (fin.get tree.old q) }
+    requires room { M.held meter.old + length notes.now.slots ≤ HELD_MAX }
+    ensures content { (p : Path) → IsSome (fin.get tree.old p) → row ≡ table_slot tree.old p → (s j : ℕ) → M.content meter.new s j ≡ with_charges tree.old p leaf (M.content meter.old) s j }
+    ensures held { M.held meter.new ≡ M.held meter.old + length notes.now.slots }
+    ensures raised { (p : Path) → IsSome (fin.get tree.old p) → row ≡ table_slot tree.old p → (q : Path) → fin.get tree.new q ≡ option_map (raised_by M.LEAVES (with_charges tree.old p leaf (M.content meter.old)) p q) (fin.get tree.old q) }
     ensures slots { SameSlots tree.old tree.new }
 {
     tree.known();
-    path.known();
     let slots = notes.slots();
     let peaks = notes.peaks();
     charge_slots(meter, slots, leaf);
     let mut table = [0; DEPTH_MAX];
     let reached = &mut table[..peaks.len()];
     reach(meter, slots, peaks, reached);
-    raise_along(tree, path, slot, peaks, reached);
+    raise_along(tree, row, peaks, reached);
 }
 
-// How many first names of the path are a group, at most all of them, and where its processes are in their table.
-fn find_longest<T: Allocator + Clone, A: Allocator + Clone>(
-    tree: &GroupTable<T>,
-    path: &GroupPath<A>,
-) -> (usize, u16)
-    ensures inside { result.0 ≤ length path.now }
-    ensures group { IsSome (fin.get tree.now (take result.0 path.now)) }
-    ensures slot { result.1 ≡ table_slot tree.now (take result.0 path.now) }
-    ensures missing { (n : ℕ) → result.0 < n → n ≤ length path.now → fin.get tree.now (take n path.now) ≡ None }
+// Sets the peaks of the group in a row and of those above it without the root to those of the list, from that group upward.
+pub(crate) fn set_list_up<T: Allocator + Clone, A: Allocator + Clone>(
+    tree: &mut GroupTable<T>,
+    row: u16,
+    peaks: &Peaks<A>,
+)
+    requires group { IsOfGroup tree.old row }
+    requires many { (p : Path) → IsSome (fin.get tree.old p) → row ≡ table_slot tree.old p → length peaks.now ≡ length p }
+    requires few { length peaks.now ≤ 32 }
+    ensures { (p : Path) → IsSome (fin.get tree.old p) → row ≡ table_slot tree.old p → SetsPeaks tree.old tree.new p peaks.now }
 {
-    tree.known();
-    let mut n = path.depth();
-    while n > 0 {
-        if let Some(slot) = tree.find_row_at(path, n) {
-            return (n, slot);
-        }
-        n -= 1;
-    }
-    (0, 0)
-}
-
-impl<A: Allocator + Clone, M: Meter> Charges<A, M> {
-    /// Sets the peaks of the group at the path and of the groups above it, without the root: one for each name of the path,
-    /// from the group upward. It doesn't compare them with the counts. If no given peak is lower than its group's count,
-    /// none is afterwards. Allocates nothing. Costs one descent of the tree.
-    pub fn set_peaks<B: Allocator + Clone>(&mut self, path: &GroupPath<B>, peaks: &[u64])
-        requires { length peaks.now ≡ length path.now }
-        ensures { self.new ≡ flat.set_peaks path.now peaks.now self.old }
-    {
-        let (n, slot) = find_longest(&self.tree, path);
-        set_peaks_up(&mut self.tree, path, slot, &peaks[peaks.len() - n..]);
-        self.tree.known();
-    }
-    /// Sets the peaks of the group at the path and of the groups above it to those of the list, as `set_peaks` does.
-    /// Allocates nothing. Costs one descent of the tree.
-    pub fn restore_peaks<B: Allocator + Clone>(&mut self, path: &GroupPath<B>, peaks: &Peaks<B>)
-        requires { length peaks.now ≡ length path.now }
-        ensures { self.new ≡ flat.set_peaks path.now peaks.now self.old }
-    {
-        path.known();
-        let mut table = [0; DEPTH_MAX];
-        let front = &mut table[..peaks.len()];
-        peaks.copy_to(front);
-        self.set_peaks(path, front);
-    }
+    let mut table = [0; DEPTH_MAX];
+    let front = &mut table[..peaks.len()];
+    peaks.copy_to(front);
+    set_peaks_up(tree, row, front);
 }

@@ -1,6 +1,6 @@
 //! Putting listed processes back: the undo of a kill.
 
-ghost use Rattle.std.specs.Prelude.{◌≡◌, ◌≤◌, ◌<◌, ◌^◌, ℕ, IfOk, IfErr, IsSome, OnErr, OnOk, None, length, drop, eqb, map};
+ghost use Rattle.std.specs.Prelude.{◌≡◌, ◌≤◌, ◌<◌, ℕ, IfOk, IsSome, OnErr, OnOk, None, length, drop, eqb, map};
 ghost use Rattle.std.specs.List.{All, sum_by, IsDistinct};
 ghost use Rattle.std.specs.Ordering.{nat_cmp};
 ghost use Rattle.std.specs.BTreeMap.{insert_entry, is_at};
@@ -13,20 +13,16 @@ ghost use Rattle.pids_charge.specs.Lists.{with_lost, without, placed_at, rows_of
 ghost use Rattle.pids_charge.specs.Recount.{charges_at, SlotsBelow};
 
 use crate::charges::Charges;
-use crate::fault::ChargeFault;
-use crate::gate::Gate;
 use crate::groups::GroupTable;
 use crate::lost::Lost;
 use crate::meter::Meter;
 use crate::rows::{put_copy, take_row};
-use crate::settler::{Settler, with_threads};
+use crate::settler::Settler;
 use crate::slot::slot_in;
 use crate::walk::push_up;
 use process_table::ProcessTable;
 use snzi_tokens::Token;
 use std::alloc::{AllocError, Allocator};
-use std::sync::Wait;
-use std::thread::Threads;
 
 // A token for each charge of the listed processes.
 fn tokens_of<M: Meter, T: Allocator + Clone, A: Allocator + Clone, B: Allocator + Clone>(
@@ -131,44 +127,21 @@ fn place_each<T: Allocator + Clone, A: Allocator + Clone, B: Allocator + Clone>(
 
 impl<A: Allocator + Clone, M: Meter> Charges<A, M> {
     /// Puts the listed processes back into their groups, charged at the leaf of `who`, or none of them. Passes all charges
-    /// to the meter at once. It may wait for the threads that do parts of the settlement.
+    /// to the meter at once, by this settler.
     ///
     /// # Errors
     ///
-    /// `OutOfMemory`; nothing has changed then.
-    pub fn place_all<R: Threads + Wait + Sync, B: Allocator + Clone>(
-        &mut self,
-        rt: &R,
-        gate: &(dyn Gate + Sync),
-        who: u8,
-        list: &[Lost<B>],
-    ) -> Result<(), ChargeFault>
-        requires homes { All (λ l. IsSome (fin.get self.old.groups l.path)) list.now }
-        requires new { All (λ l. fin.get self.old.home l.pid ≡ None) list.now }
-        requires apart { IsDistinct eqb (map (λ l. l.pid) list.now) }
-        ensures placed { OnOk result (self.new ≡ back (Killed (rows_of list.now)) self.old) }
-        ensures memory { IfErr result (λ f. f ≡ ChargeFault.OutOfMemory) }
-        ensures kept { OnErr result (self.new ≡ self.old) }
-    {
-        self.place_all_by(&with_threads(rt, gate), who, list)
-    }
-
-    /// `place_all` by this settler.
-    ///
-    /// # Errors
-    ///
-    /// That of `place_all`.
-    pub fn place_all_by<S: Settler, B: Allocator + Clone>(
+    /// `AllocError`; nothing has changed then.
+    pub fn put_processes_back<S: Settler, B: Allocator + Clone>(
         &mut self,
         settler: &S,
         who: u8,
         list: &[Lost<B>],
-    ) -> Result<(), ChargeFault>
+    ) -> Result<(), AllocError>
         requires homes { All (λ l. IsSome (fin.get self.old.groups l.path)) list.now }
         requires new { All (λ l. fin.get self.old.home l.pid ≡ None) list.now }
         requires apart { IsDistinct eqb (map (λ l. l.pid) list.now) }
         ensures placed { OnOk result (self.new ≡ back (Killed (rows_of list.now)) self.old) }
-        ensures memory { IfErr result (λ f. f ≡ ChargeFault.OutOfMemory) }
         ensures kept { OnErr result (self.new ≡ self.old) }
     {
         self.tree.known();

@@ -1,13 +1,13 @@
 //! Removing groups, and undoing a removal.
 
-ghost use Rattle.std.specs.Prelude.{◌≡◌, ◌≢◌, ◌≤◌, length, IsOk, Some, None, IsSome, IfSome, IfOk, IfErr, OnErr, OnOk, MatchOption};
+ghost use Rattle.std.specs.Prelude.{◌≡◌, ◌≢◌, ◌≤◌, length, Some, None, IsSome, IfSome, OnErr, OnOk, MatchOption};
 ghost use Rattle.std.specs.FinMap as fin;
 ghost use Rattle.flat_model.specs.Path.{parent};
 ghost use Rattle.flat_model.specs.Command.{RemoveGroup};
 ghost use Rattle.flat_model.specs.Step.{refusal, after};
 ghost use Rattle.flat_model.specs.Inverse.{back, Removed};
 ghost use Rattle.group_tree.specs.Flat.{group_of};
-ghost use Rattle.pids_charge.specs.Answers.{Does, refusal_of_fault, after_fault, names_in};
+ghost use Rattle.pids_charge.specs.Answers.{refusal_of_fault, after_fault, names_in};
 
 use crate::charges::Charges;
 use crate::fault::ChargeFault;
@@ -15,7 +15,7 @@ use crate::meter::Meter;
 use crate::slot::slot_above;
 use group_path::GroupPath;
 use group_tree::Attr;
-use std::alloc::Allocator;
+use std::alloc::{AllocError, Allocator};
 
 impl<A: Allocator + Clone, M: Meter> Charges<A, M> {
     /// The refusal that `rmdir` would return. Costs at most one descent of the tree.
@@ -65,40 +65,21 @@ impl<A: Allocator + Clone, M: Meter> Charges<A, M> {
         attr
     }
 
-    /// Removes a group that has no groups below it and no processes, and returns its attributes. Allocates nothing. Costs at
-    /// most two descents of the tree: the count says whether there are processes. The groups above it keep their event totals.
-    ///
-    /// # Errors
-    ///
-    /// The first of these that applies: `RootFixed`, `NoGroup`, `HasChildren`, `HasProcesses`. Nothing has changed then.
-    pub fn rmdir<B: Allocator + Clone>(&mut self, path: &GroupPath<B>) -> Result<Attr, ChargeFault>
-        ensures state { Does M.SLOTS self.old (RemoveGroup path.now) path.now result self.new }
-        ensures inside { IfErr result (λ f. names_in f ≤ length path.now) }
-        ensures attr { IfOk result (λ attr. Some (group_of attr) ≡ fin.get self.old.groups path.now) }
-        ensures certain { refusal M.SLOTS self.old (RemoveGroup path.now) ≡ None → IsOk result }
-    {
-        if let Some(fault) = self.refuses_rmdir(path) {
-            return Err(fault);
-        }
-        Ok(self.take_group(path))
-    }
-
     /// Puts a group back with its limits, event totals and peak, on any free slot; the slot in `attr` is ignored. Tests no
     /// limit of the groups above it. Costs two descents of the tree: one finds the slot of its parent.
     ///
     /// # Errors
     ///
-    /// `OutOfMemory`; nothing has changed then.
-    pub fn restore<B: Allocator + Clone>(
+    /// `AllocError`; nothing has changed then.
+    pub fn put_group_back<B: Allocator + Clone>(
         &mut self,
         path: &GroupPath<B>,
         attr: Attr,
-    ) -> Result<(), ChargeFault>
+    ) -> Result<(), AllocError>
         requires new { fin.get self.old.groups path.now ≡ None }
         requires parent { IsSome (fin.get self.old.groups (parent path.now)) }
         requires slot { fin.len self.old.groups ≤ M.SLOTS }
         ensures restored { OnOk result (self.new ≡ back (Removed path.now (group_of attr)) self.old) }
-        ensures memory { IfErr result (λ f. f ≡ ChargeFault.OutOfMemory) }
         ensures kept { OnErr result (self.new ≡ self.old) }
     {
         path.known();
@@ -109,7 +90,7 @@ impl<A: Allocator + Clone, M: Meter> Charges<A, M> {
         let made = self.tree.insert(path, Attr { slot, ..attr }, above);
         self.tree.known();
         if made.is_err() {
-            return Err(ChargeFault::OutOfMemory);
+            return Err(AllocError);
         }
         self.free.truncate(last);
         Ok(())

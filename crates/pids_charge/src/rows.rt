@@ -99,29 +99,28 @@ pub(crate) fn put_copy<A: Allocator + Clone, B: Allocator + Clone>(
     put_row(processes, pid, Process { home, slot, leaf })
 }
 
-// Inserts a process into the group and the slot of another one. They share the text of a long path.
-pub(crate) fn put_beside<A: Allocator + Clone>(
+// `put_copy`, which also returns the path that the process gets. They share a long text.
+pub(crate) fn put_shared<A: Allocator + Clone, B: Allocator + Clone>(
     processes: &mut ProcessTable<A>,
-    parent: Pid,
+    alloc: &A,
     pid: Pid,
+    path: &GroupPath<B>,
+    slot: u16,
     leaf: u8,
-) -> Result<(), AllocError>
-    requires { IsSome (lookup (is_at (nat_cmp parent)) processes.old) }
-    ensures entries { OnOk result ((from : Process A) → lookup (is_at (nat_cmp parent)) processes.old ≡ Some from → processes.new ≡ insert_entry nat_cmp processes.old pid (process_in from.home from.slot leaf)) }
-    ensures found { OnOk result ((from : Process A) → lookup (is_at (nat_cmp parent)) processes.old ≡ Some from → lookup (is_at (nat_cmp pid)) processes.new ≡ Some (process_in from.home from.slot leaf)) }
+) -> Result<(GroupPath<A>, Option<Process<A>>), AllocError>
+    ensures path { IfOk result (λ put. put.0 ≡ path.now) }
+    ensures old { IfOk result (λ put. put.1 ≡ lookup (is_at (nat_cmp pid)) processes.old) }
+    ensures entries { OnOk result (processes.new ≡ insert_entry nat_cmp processes.old pid (process_in path.now slot leaf)) }
     ensures ordered { IsStrictlySortedBy nat_cmp (keys_of processes.new) }
     ensures kept { OnErr result (processes.new ≡ processes.old) }
     ensures pid { IsPid pid }
 {
-    processes.known();
     pid.get();
-    let Some(from) = find_row(processes, parent) else {
-        unreachable!()
-    };
-    let slot = from.slot;
-    let home = from.home.share()?;
-    let _ = put_row(processes, pid, Process { home, slot, leaf })?;
-    Ok(())
+    processes.known();
+    let home = home_in(processes, alloc, path, slot)?;
+    let shared = home.share()?;
+    let old = put_row(processes, pid, Process { home, slot, leaf })?;
+    Ok((shared, old))
 }
 
 // Removes a process and returns it.

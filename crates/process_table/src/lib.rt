@@ -9,11 +9,11 @@
 //! - `insert` is the only call that allocates memory for the table. If that fails, nothing that can be read has
 //!   changed.
 //!
-//! A page has the cells of 64 consecutive pids. It is allocated when the first of them is inserted, and freed when the
-//! last one is removed. A search is two loads, whatever the pids are. A hash table with a fixed seed would have a worst
-//! case: a trace that chooses its pids could make each search long. Ascending pids fill their pages; a lone pid takes a
-//! page of 3,072 bytes. Pages of row numbers over dense rows would take less memory for scattered pids, and one more
-//! load for each search.
+//! A page has the cells of 64 consecutive pids. It is allocated when the first of them is inserted. The page that was
+//! emptied last keeps its memory, since processes come and go; the one that was emptied before it is freed. A search is
+//! two loads, whatever the pids are. A hash table with a fixed seed would have a worst case: a trace that chooses its
+//! pids could make each search long. Ascending pids fill their pages; a lone pid takes a page of 3,072 bytes. Pages of
+//! row numbers over dense rows would take less memory for scattered pids, and one more load for each search.
 //!
 //! Each slot has a list of its pids, in no order. A cell stores the index of its pid in that list. So a process leaves
 //! its slot in constant time: the last pid of the list moves to its index.

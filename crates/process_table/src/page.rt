@@ -89,8 +89,13 @@ impl<A: Allocator + Clone> Page<A> {
         before
     }
 
+    // Whether no cell is in use.
+    pub(crate) fn is_unused(&self) -> bool {
+        self.used == 0
+    }
+
     // Frees the memory of an empty page.
-    fn free(&mut self)
+    pub(crate) fn free(&mut self)
         ensures { (k : ℕ) → slice_index_or self.new k None ≡ slice_index_or self.old k None }
     {
         if are_all_empty(self.cells.as_slice()) {
@@ -99,7 +104,7 @@ impl<A: Allocator + Clone> Page<A> {
         }
     }
 
-    // Removes a cell. Removing the last one frees the page.
+    // Removes a cell.
     pub(crate) fn take(&mut self, at: usize) -> Option<Cell<A>>
         ensures before { result ≡ slice_index_or self.old at None }
         ensures after { (k : ℕ) → slice_index_or self.new k None ≡ slice_index_or (slice_set self.old at None) k None }
@@ -110,9 +115,6 @@ impl<A: Allocator + Clone> Page<A> {
         let taken = self.cells[at].take();
         if taken.is_some() {
             self.used = self.used.wrapping_sub(1);
-        }
-        if self.used == 0 {
-            self.free();
         }
         taken
     }

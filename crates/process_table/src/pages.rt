@@ -9,11 +9,14 @@ use crate::page::{CELLS, Page};
 use crate::process::Cell;
 use std::alloc::{AllocError, Allocator};
 use std::marker::Model;
+use std::mem;
 
 // The cell of a pid is in the page `pid / CELLS`.
 #[derive(Drop)]
 pub(crate) struct Pages<A: Allocator + Clone> {
     pages: Vec<Page<A>, A>,
+    // A pid of the page that was emptied last, which keeps its memory.
+    spare: u32,
 }
 
 impl<A: Allocator + Clone> Model for Pages<A> {
@@ -32,6 +35,7 @@ impl<A: Allocator + Clone> Pages<A> {
     {
         Pages {
             pages: Vec::new(alloc),
+            spare: 0,
         }
     }
 
@@ -77,7 +81,7 @@ impl<A: Allocator + Clone> Pages<A> {
     }
 
     // Removes a cell.
-    pub(crate) fn take(&mut self, pid: u32) -> Option<Cell<A>>
+    fn take_cell(&mut self, pid: u32) -> Option<Cell<A>>
         ensures before { result ≡ cell_at self.old pid }
         ensures after { (q : ℕ) → cell_at self.new q ≡ (if eqb pid q then None else cell_at self.old q) }
     {
@@ -87,6 +91,44 @@ impl<A: Allocator + Clone> Pages<A> {
         } else {
             None
         }
+    }
+
+    // Whether the page of a pid has no cell in use.
+    fn is_unused(&self, pid: u32) -> bool {
+        let page = pid as usize / CELLS;
+        page < self.pages.len() && self.pages[page].is_unused()
+    }
+
+    // Frees the page of a pid, if it is empty.
+    fn free_page(&mut self, pid: u32)
+        ensures { (q : ℕ) → cell_at self.new q ≡ cell_at self.old q }
+    {
+        let page = pid as usize / CELLS;
+        if page < self.pages.len() {
+            self.pages[page].free();
+        }
+    }
+
+    // Frees the page that was emptied before, and keeps the memory of this pid's page.
+    fn spare_page(&mut self, pid: u32)
+        ensures { (q : ℕ) → cell_at self.new q ≡ cell_at self.old q }
+    {
+        let before = mem::replace(&mut self.spare, pid);
+        if before as usize / CELLS != pid as usize / CELLS {
+            self.free_page(before);
+        }
+    }
+
+    // Removes a cell. One page at most keeps its memory without cells in use.
+    pub(crate) fn take(&mut self, pid: u32) -> Option<Cell<A>>
+        ensures before { result ≡ cell_at self.old pid }
+        ensures after { (q : ℕ) → cell_at self.new q ≡ (if eqb pid q then None else cell_at self.old q) }
+    {
+        let taken = self.take_cell(pid);
+        if self.is_unused(pid) {
+            self.spare_page(pid);
+        }
+        taken
     }
 
     // Stores another index in the cell of a pid, if there is one.

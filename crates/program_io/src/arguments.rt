@@ -1,9 +1,11 @@
 //! The arguments of a program.
 
-ghost use Rattle.std.specs.Prelude.{◌≡◌, drop};
+ghost use Rattle.std.specs.Prelude.{◌≡◌, drop, map};
 ghost use Rattle.program_io.specs.Arguments.{Collects};
+ghost use Rattle.program_io.specs.Clusters.{asks_text, cluster_first, is_cluster};
 
 use std::alloc::Global;
+use std::convert::AsStr;
 use std::{env, io};
 use thiserror::Error;
 
@@ -48,5 +50,39 @@ pub fn without_name(args: &[String]) -> &[String]
     match args {
         [_, words @ ..] => words,
         [] => args,
+    }
+}
+
+/// Whether a cluster of flags, as `-hV`, comes before every word that asks for a text. `clap` reads such a word flag by
+/// flag, so it takes `-V1` for a request for the version.
+pub fn cluster_first<S: AsStr>(words: &[S]) -> bool
+    ensures { result ≡ cluster_first (map S.text words.now) }
+{
+    for word in words {
+        let text = word.as_str();
+        if asks_text(text) {
+            return false;
+        }
+        if is_cluster(text) {
+            return true;
+        }
+    }
+    false
+}
+
+/// Whether a word asks for the help text or the version.
+fn asks_text(word: &str) -> bool
+    ensures { result ≡ asks_text word.now }
+{
+    word == "-h" || word == "-V" || word == "--help" || word == "--version"
+}
+
+/// Whether a word is a cluster: a dash and more than one flag.
+fn is_cluster(word: &str) -> bool
+    ensures { result ≡ is_cluster word.now }
+{
+    match word.as_bytes() {
+        [b'-', second, _, ..] => *second != b'-',
+        _ => false,
     }
 }

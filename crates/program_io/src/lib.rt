@@ -5,12 +5,14 @@
 //! - `MemorySource` and `MemorySink` are devices in memory; `StreamSource` and `StreamSink` are over the readers and writers
 //!   of std. Those over standard input and output expose no bytes.
 //! - `write_whole` writes all bytes and flushes them. If it fails, a prefix was written.
-//! - `collect_arguments` returns the program's arguments, or why they could not be read (`LineFault`).
+//! - `collect_arguments` returns the program's arguments, or why they could not be read (`LineFault`). `cluster_first` finds a
+//!   cluster of flags among them.
 //!
 //! Nothing here knows commands, engines or threads. Not promised: when a device answers, and what it allocates.
 //!
 //! `specs/Device.antt` says what reads and writes leave of a device, `specs/Arguments.antt` what collecting the arguments
-//! gives. `proofs/CommandLines.antt` has what the command lines of both programs need of `clap`.
+//! gives, and `specs/Clusters.antt` what a cluster of flags is. `proofs/CommandLines.antt` has what the command lines of both
+//! programs need of `clap`.
 #![tactic(auto)]
 
 mod arguments;
@@ -19,7 +21,7 @@ mod memory;
 mod output;
 mod streams;
 
-pub use arguments::{LineFault, collect_arguments, without_name};
+pub use arguments::{LineFault, cluster_first, collect_arguments, without_name};
 pub use device::{DeviceFault, Sink, Source};
 pub use memory::{MemorySink, MemorySource};
 pub use output::write_whole;

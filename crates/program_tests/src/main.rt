@@ -12,12 +12,14 @@
 //! | `run WAY TRACE`, `once WAY TRACE` | the output in that way, in pieces of several sizes, or in one; WAY is 1 to 8, `rehearsed`, `shell`, `strict`, `forgetful` or `strict_forgetful` |
 //! | `grow LINE` | what the line adds to the output, cut after each byte since the last call; `;` ends the line |
 //! | `fail`, `fail_alone`, `over`, `full`, `long`, `stream`, `stuck`, `memory`, `talk` | with devices that fail, end or wait (`faults.rt`) |
-//! | `meet TRACE` | the output with three workers, each of which is a thread in each phase |
+//! | `meet TRACE`, `meet_alone TRACE` | the output with three workers, each of which is a thread in each phase; with one, which passes each phase |
 //! | `rounds TIMES TRACE` | the counts of the trace that many times, with 1, 2, 3 and 8 workers, in a rehearsal and in a shell |
 //! | `put FIRST LAST TEXT`, `want FIRST LAST TEXT` | nothing; the subject's trace, or its wanted output, has the text once for each number, which replaces `%` |
 //! | `play` | the counts of that trace in these ways, if the output is the wanted |
 //! | `line`, `helps`, `cgreplay`, `cgshell`, `file`, `collect`, `collect_error`, `endings`, `shell_endings`, `closed_endings`, `text_faults` | of command lines (`arguments.rt`) |
 #![tactic(auto)]
+
+ghost use Rattle.std.specs.Prelude.{◌≤◌};
 
 mod arguments;
 mod faults;
@@ -36,7 +38,7 @@ use replay_main::{Gate, MemorySink, MemorySource, replay_gated};
 use std::alloc::{AllocError, Global};
 use std::process::ExitCode;
 use std::sync::Wait;
-use std::thread::Threads;
+use std::thread::{Threads, yield_now};
 use test_support::{
     Barrier, Case, CaseFault, Group, Outcome, Subject, Suite, Tally, run_ample, run_suite,
 };
@@ -59,27 +61,32 @@ struct Played {
     growing: Growing,
 }
 
-/// Where the three parts of a phase meet.
+/// Where the parts of a phase meet. Each lets other threads run first, by a call that `.ci/refused/run` sees.
 #[derive(Drop)]
 struct Meeting(Barrier);
 
 impl Gate for Meeting {
     fn pass(&self, part: u8) {
+        yield_now();
         self.0.pass(part);
     }
 }
 
-/// Says the output by three workers, if each was a thread in each phase.
+/// Says the output by one or three workers, if each passed the hook in each phase, those of a phase at the same time.
 fn meet<R: Threads + Wait + Sync>(
     rt: &R,
     alloc: Global,
+    workers: u8,
     trace: &[u8],
     said: &mut String,
-) -> Result<(), CaseFault> {
-    let barrier = Meeting(Barrier::new(9, 3));
+) -> Result<(), CaseFault>
+    requires { (1 ≤ workers) × (workers ≤ 3) }
+{
+    let size = usize::from(workers);
+    let barrier = Meeting(Barrier::new(3 * size, size));
     let mut source = MemorySource::new(trace);
     let mut sink = MemorySink::new(alloc);
-    let answer = replay_gated(rt, alloc, &barrier, &mut source, &mut sink, 3);
+    let answer = replay_gated(rt, alloc, &barrier, &mut source, &mut sink, workers);
     match answer {
         Ok(summary) => put_answer(said, Ok(summary), sink.bytes())?,
         Err(fault) => write!(said, "{fault}")?,
@@ -235,7 +242,8 @@ fn answer_trace<R: Threads + Wait + Sync>(
         b"stream" => play_streams(rt, alloc, false, trace, said),
         b"stuck" => play_streams(rt, alloc, true, trace, said),
         b"talk" => talk(rt, alloc, trace, said),
-        b"meet" => meet(rt, alloc, trace, said),
+        b"meet" => meet(rt, alloc, 3, trace, said),
+        b"meet_alone" => meet(rt, alloc, 1, trace, said),
         b"rounds" => play_rounds(rt, alloc, case.number(1)?, trace, said),
         b"helps" => put_help(alloc, trace, said),
         _ => answer_in_a_way(rt, alloc, case, said),

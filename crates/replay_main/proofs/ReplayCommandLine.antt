@@ -5,6 +5,7 @@ use Rattle.clap.specs.declared.error.kind.ErrorKind.{ErrorKind}
 use Rattle.clap.specs.declared.error.kind.ErrorKind.TheVariants as kind
 use Rattle.clap.specs.declared.parser.matches.ArgMatches.{ArgMatches}
 use Rattle.clap.proofs.OnLiterals.{clap_on_literals}
+use Rattle.program_io.specs.Clusters.{cluster_first}
 use Rattle.program_io.proofs.CommandLines.{nameless, value_in, help_is_not_out_of_memory}
 use Rattle.replay_main.specs.declared.arguments.Ask.{Ask}
 use Rattle.replay_main.specs.declared.arguments.Ask.TheVariants.{Run, Help}
@@ -32,10 +33,11 @@ pub rehearsal_said_in : (a : App) (words : List Text) (m : ArgMatches) (value : 
     → value ≡ first_value (found_of m) (codes "rehearse") → rehearsal_said value ≡ rehearsal_in words
 rehearsal_said_in a words m value is h v = ap rehearsal_said (value_in app app_simple a words m (codes "rehearse") value is h v)
 
-pub asks_by : (words : List Text) (k : ErrorKind) (r : Result Ask LineFault) → AsksReplayBy k r → (k ≡ kind.OutOfMemory) ⊎ IsAmong k (fault_of app words) → AsksReplay words r
+pub asks_by : (words : List Text) (k : ErrorKind) (r : Result Ask LineFault) → AsksReplayBy (cluster_first words) k r → (k ≡ kind.OutOfMemory) ⊎ IsAmong k (fault_of app words)
+    → AsksReplay words r
 asks_by words k (Ok (Run workers rehearse)) h b = absurd h
-asks_by words k (Ok (Help text)) h (inl e) = absurd (help_is_not_out_of_memory (sym h ∙ e))
-asks_by words k (Ok (Help text)) h (inr a) = subst (λ x. IsAmong x (fault_of app words)) h a
+asks_by words k (Ok (Help text)) h (inl e) = absurd (help_is_not_out_of_memory (sym h.0 ∙ e))
+asks_by words k (Ok (Help text)) h (inr a) = (subst (λ x. IsAmong x (fault_of app words)) h.0 a, h.1)
 asks_by words k (Err Bad) h (inl e) = absurd (h.1 e)
 asks_by words k (Err Bad) h (inr a) = inl (k, a, h.0)
 asks_by words k (Err OutOfMemory) h b = tt

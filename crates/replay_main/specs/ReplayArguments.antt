@@ -1,7 +1,7 @@
--- What a command line asks for, by the kinds of fault that `clap` finds in its words (none, a call for help, or another) and by what stands at `--workers` and `--rehearse`.
+-- What a command line asks for, by the kinds of fault that `clap` finds in its words (none, a call for help, or another), by what stands at `--workers` and `--rehearse`, and by the first cluster of flags, as `-hx`.
 use Rattle.std.specs.Prelude.{◌≡◌, ◌≢◌, ◌≤◌, ◌-◌, ◌&&◌, ◌⊎◌, ℕ, Bool, true, false, nat_lt, if◌then◌else◌, List, [], ◌∷◌, codes, Option, Some, None, Result, Ok, Err}
 use Rattle.std.specs.Str.{bytes_eq}
-use Rattle.clap.specs.Words.{App, IsAmong, Kinds, Rule, Text, fault_of, first_of, matches_of, new_app, new_rule, with_rule}
+use Rattle.clap.specs.Words.{App, IsAmong, Rule, Text, fault_of, first_of, matches_of, new_app, new_rule, with_rule}
 use Rattle.clap.specs.declared.builder.action.ArgAction.TheVariants.{SetTrue}
 use Rattle.clap.specs.declared.error.kind.ErrorKind.{ErrorKind}
 use Rattle.clap.specs.declared.error.kind.ErrorKind.TheVariants as kind
@@ -9,6 +9,7 @@ use Rattle.replay_main.specs.declared.arguments.Ask.{Ask}
 use Rattle.replay_main.specs.declared.arguments.Ask.TheVariants.{Run, Help}
 use Rattle.program_io.specs.declared.arguments.LineFault.{LineFault}
 use Rattle.program_io.specs.declared.arguments.LineFault.TheVariants.{Bad, OutOfMemory}
+use Rattle.program_io.specs.Clusters.{cluster_first}
 
 -- `--workers N`; its value has a name in the help text
 abbrev pub workers_rule : Rule
@@ -46,20 +47,24 @@ rehearsal_said (Some text) = bytes_eq text (codes "true")
 abbrev pub rehearsal_in : List Text → Bool
 rehearsal_in words = rehearsal_said (first_of (codes "rehearse") (matches_of app words))
 
--- some kind among them is not a call for help
-abbrev pub HasFault : Kinds → Type 0
-HasFault kinds = (k : ErrorKind) × IsAmong k kinds × (k ≢ kind.DisplayHelp)
+-- help is asked for, by a word of its own: `clap` also takes a cluster of flags, as `-hx`, for a call for help
+abbrev pub AsksHelp : List Text → Type 0
+AsksHelp words = IsAmong kind.DisplayHelp (fault_of app words) × (cluster_first words ≡ false)
+
+-- some kind of fault is not such a call, or is one only by a cluster of flags
+abbrev pub HasFault : List Text → Type 0
+HasFault words = (k : ErrorKind) × IsAmong k (fault_of app words) × ((k ≢ kind.DisplayHelp) ⊎ (cluster_first words ≡ true))
 
 -- a run if there is no fault and 1 to 8 workers are asked for; help if it is asked for; a bad line on another fault or another number
 abbrev pub AsksReplay : List Text → Result Ask LineFault → Type 0
 AsksReplay words (Ok (Run workers rehearse)) = (fault_of app words ≡ []) × (workers_in words ≡ Some workers) × (1 ≤ workers) × (workers ≤ 8) × (rehearse ≡ rehearsal_in words)
-AsksReplay words (Ok (Help text)) = IsAmong kind.DisplayHelp (fault_of app words)
-AsksReplay words (Err Bad) = HasFault (fault_of app words) ⊎ ((fault_of app words ≡ []) × (workers_in words ≡ None))
+AsksReplay words (Ok (Help text)) = AsksHelp words
+AsksReplay words (Err Bad) = HasFault words ⊎ ((fault_of app words ≡ []) × (workers_in words ≡ None))
 AsksReplay words (Err OutOfMemory) = Unit {0}
 
--- the result for an error of this kind
-abbrev pub AsksReplayBy : ErrorKind → Result Ask LineFault → Type 0
-AsksReplayBy k (Ok (Run workers rehearse)) = ⊥
-AsksReplayBy k (Ok (Help text)) = k ≡ kind.DisplayHelp
-AsksReplayBy k (Err Bad) = (k ≢ kind.DisplayHelp) × (k ≢ kind.OutOfMemory)
-AsksReplayBy k (Err OutOfMemory) = Unit {0}
+-- the result for an error of this kind, by whether a cluster comes first
+abbrev pub AsksReplayBy : Bool → ErrorKind → Result Ask LineFault → Type 0
+AsksReplayBy clustered k (Ok (Run workers rehearse)) = ⊥
+AsksReplayBy clustered k (Ok (Help text)) = (k ≡ kind.DisplayHelp) × (clustered ≡ false)
+AsksReplayBy clustered k (Err Bad) = ((k ≢ kind.DisplayHelp) ⊎ (clustered ≡ true)) × (k ≢ kind.OutOfMemory)
+AsksReplayBy clustered k (Err OutOfMemory) = Unit {0}

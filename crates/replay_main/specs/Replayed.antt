@@ -28,7 +28,7 @@ pub record IsAnswered (trace bytes : List ℕ) (summary : Summary) : Type 0 wher
   pub counts : IsSummary trace summary
 
 -- The trace was read whole, and exactly its answers were written and flushed.
-pub record IsWhole (left before after : Option (List ℕ)) (read_failed write_failed flushed : Bool) (summary : Summary) : Type 0 where
+pub record IsWholeReplay (left before after : Option (List ℕ)) (read_failed write_failed flushed : Bool) (summary : Summary) : Type 0 where
   pub trace : List ℕ
   pub is_input : IsInput left trace
   pub short : length trace ≤ trace_max
@@ -55,7 +55,7 @@ IsShort (Some left) = length left ≤ trace_max
 
 -- What a replay leaves, by its result: the source had these bytes left, and the marks are these.
 abbrev pub Replayed : Option (List ℕ) → Bool → Option (List ℕ) → Option (List ℕ) → Bool → Bool → Result Summary ReplayFault → Type 0
-Replayed left read_failed before after write_failed flushed (Ok summary) = IsWhole left before after read_failed write_failed flushed summary
+Replayed left read_failed before after write_failed flushed (Ok summary) = IsWholeReplay left before after read_failed write_failed flushed summary
 Replayed left read_failed before after write_failed flushed (Err Write) = IsCut left before after read_failed write_failed
 Replayed left read_failed before after write_failed flushed (Err Read) = (read_failed ≡ true) × IsUnwritten before after write_failed
 Replayed left read_failed before after write_failed flushed (Err InputTooLong) = IsTooLong left × (read_failed ≡ false) × IsUnwritten before after write_failed

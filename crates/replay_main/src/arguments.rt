@@ -6,7 +6,7 @@ ghost use Rattle.replay_main.specs.ReplayArguments.{AsksReplay, AsksReplayBy, ap
 
 use clap::error::ErrorKind;
 use clap::{Arg, ArgAction, Command, Error};
-use program_io::{LineFault, without_name};
+use program_io::{LineFault, cluster_first, without_name};
 use std::alloc::{AllocError, Global};
 use std::convert::AsStr;
 
@@ -75,7 +75,7 @@ fn read_words<S: AsStr>(alloc: Global, words: &[S]) -> Result<Ask, LineFault>
             }),
             None => Err(LineFault::Bad),
         },
-        Err(error) => asked_by(alloc, &error),
+        Err(error) => asked_by(alloc, &error, cluster_first(words)),
     }
 }
 
@@ -110,10 +110,12 @@ fn read_digit(text: &[u8]) -> Option<u8>
     }
 }
 
-fn asked_by(alloc: Global, error: &Error) -> Result<Ask, LineFault>
-    ensures { AsksReplayBy (kind_of error.now) result }
+/// What an error of `clap` asks for. A call for help by a cluster of flags is a bad command line.
+fn asked_by(alloc: Global, error: &Error, is_clustered: bool) -> Result<Ask, LineFault>
+    ensures { AsksReplayBy is_clustered (kind_of error.now) result }
 {
     match error.kind() {
+        ErrorKind::DisplayHelp if is_clustered => Err(LineFault::Bad),
         ErrorKind::DisplayHelp => match format!(in alloc; "{error}") {
             Ok(text) => Ok(Ask::Help(text)),
             Err(_) => Err(LineFault::OutOfMemory),

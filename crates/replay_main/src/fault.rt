@@ -18,7 +18,8 @@ pub enum ReplayFault {
     /// Out of memory for the trace, the groups and processes, or the answers. Nothing was written.
     #[error("out of memory")]
     OutOfMemory,
-    /// The sessions' receipts, or the trace, did not match the log. Nothing was written.
+    /// The desk's log did not match the sessions' receipts, or the trace's commands and the sessions
+    /// whose turns they were. Nothing was written. Only two or more workers have a desk.
     #[error("close failed")]
     Close,
 }

@@ -81,6 +81,7 @@ fn answer_trace<R: Threads + Wait + Sync, S: Source, W: Sink>(
         (W.taken writer.old) (W.taken writer.new) (W.is_failed writer.new) (W.is_flushed writer.new)
         result }
     ensures never_close { rehearse ≡ true → result ≢ Err Close }
+    ensures one_worker { workers ≡ 1 → result ≢ Err Close }
 {
     if rehearse {
         return rehearse_trace(rt, alloc, reader, writer);

@@ -16,11 +16,13 @@ ghost use Rattle.std.specs.Prelude.{
   false,
   List,
   [],
+  Option,
   Some,
   None,
   Ok,
   Err,
   length,
+  slice_index_or,
   vec_len,
 };
 ghost use denote.Ref.{Bor};
@@ -41,7 +43,7 @@ ghost use Rattle.sessions.specs.declared.fault.CloseFault.{CloseFault};
 ghost use Rattle.sessions.specs.declared.fault.CloseFault.TheVariants as fault;
 ghost use Rattle.sessions.specs.declared.fault.RunFault.{RunFault};
 ghost use Rattle.sessions.specs.declared.fault.RunFault.TheVariants as run_fault;
-ghost use Rattle.sessions.specs.Faults.{IsFirstFault};
+ghost use Rattle.sessions.specs.Faults.{IsFirstFault, IsRefused};
 ghost use Rattle.sessions.specs.SessionMeaning.{slots, answer_of};
 ghost use Rattle.sessions.specs.Receipts.{Last, LastAt, AddsReceipt, AddsReceiptAt};
 ghost use Rattle.sessions.specs.Marks.{AllClear, IsFirstClear};
@@ -58,7 +60,9 @@ ghost use Rattle.sessions.specs.Served.{
   Served,
   log_in,
   log_len,
+  reached_of,
 };
+ghost use Rattle.sessions.specs.Waits.{AreDue, AreLeft, AreNoEarlier, HasCome, IsNoLater, IsWoken};
 
 /// A call that ran keeps the session's number and receipts, and appends one receipt: the one that it returns, of the command
 /// that was run. A call that failed leaves the session unchanged.
@@ -143,6 +147,17 @@ pub fn first_faults_of_three()
         ∷ session 1 (receipt 1 b ∷ []) ∷ []) (fault.Stranger 0) }
 {}
 
+/// A desk's fault is that of a legal log, whichever it is. Without sessions only the first entry can be missing. A receipt
+/// whose reply no machine gives is never that of an entry, so no entry after it is missing.
+pub fn faults_of_legal_logs()
+    ensures memory { (n : ℕ) (ss : List Session) → IsRefused n ss fault.OutOfMemory }
+    ensures missing { (n i : ℕ) → IsRefused n [] (fault.Missing i) ↔ (i ≡ 0) }
+    ensures no_stranger { (n k : ℕ) → IsRefused n [] (fault.Stranger k) → ⊥ }
+    ensures no_mismatch { (n i : ℕ) → IsRefused n [] (fault.Mismatch i) → ⊥ }
+    ensures illegal { (n i : ℕ) → IsRefused n (session 0 (receipt 0 (record { command = model.Undo; reply = model.Done }) ∷ []) ∷ []) (fault.Missing i)
+        → ⊥ }
+{}
+
 /// A desk has as many slots as a plain meter, so a rehearsal has the same replies as a desk.
 pub fn slots_of_a_desk()
     ensures { slots ≡ SLOTS }
@@ -172,6 +187,51 @@ pub fn turns_that_are_early()
     ensures not_late { (hall : Hall) (turn : ℕ) → IsEarly hall turn
         → IsLate turn (run_fault.TurnPassed (log_len hall)) → ⊥ }
     ensures no_log { (hall : Hall) → hall.book ≡ None → log_len hall ≡ 0 }
+{}
+
+/// A turn has come exactly if it is not early: with five entries turn 5 has come, and turn 6 has not. At a halted or closed
+/// desk every turn has come.
+pub fn turns_that_have_come()
+    ensures exactly { (hall : Hall) (turn : ℕ)
+        → HasCome (reached_of hall) turn ↔ (IsEarly hall turn → ⊥) }
+    ensures reached { HasCome (Some 5) 5 }
+    ensures next { HasCome (Some 5) 6 → ⊥ }
+    ensures halted { HasCome None 6 }
+{}
+
+/// Turns 5, 6 and 4 are noted, at the indices 0, 2 and 3. With five entries those of 0 and 3 are due and removed, and that of
+/// 2 stays. Once the desk is halted, all three are due.
+pub fn turns_that_are_due()
+    ensures due { AreDue (Some 5) (Some 5 ∷ None ∷ Some 6 ∷ Some 4 ∷ [])
+        (true ∷ false ∷ false ∷ true ∷ []) }
+    ensures left { AreLeft (Some 5) (Some 5 ∷ None ∷ Some 6 ∷ Some 4 ∷ [])
+        (None ∷ None ∷ Some 6 ∷ None ∷ []) }
+    ensures halted { AreDue None (Some 5 ∷ None ∷ Some 6 ∷ Some 4 ∷ [])
+        (true ∷ false ∷ true ∷ true ∷ []) }
+    ensures none_left { AreLeft None (Some 5 ∷ None ∷ Some 6 ∷ Some 4 ∷ []) [] }
+    ensures no_other { (due : List Bool)
+        → AreDue (Some 5) (Some 5 ∷ None ∷ Some 6 ∷ Some 4 ∷ []) due
+        → slice_index_or due 2 false ≡ false }
+    ensures kept { (after : List (Option ℕ))
+        → AreLeft (Some 5) (Some 5 ∷ None ∷ Some 6 ∷ Some 4 ∷ []) after
+        → slice_index_or after 2 None ≡ Some 6 }
+{}
+
+/// A session that waits for turn 5 is woken if turn 5 or an earlier one is noted. None of the turns 5, 6 and 4 is earlier
+/// than 4.
+pub fn turns_that_are_noted()
+    ensures same { IsWoken 5 (Some 5) }
+    ensures earlier { IsWoken 5 (Some 4) }
+    ensures later { IsWoken 5 (Some 6) → ⊥ }
+    ensures nothing { IsWoken 5 None → ⊥ }
+    ensures kept { IsNoLater (Some 5) (Some 5) }
+    ensures lost { IsNoLater (Some 5) None → ⊥ }
+    ensures moved { IsNoLater (Some 5) (Some 6) → ⊥ }
+    ensures new { IsNoLater None (Some 6) }
+    ensures least { AreNoEarlier (Some 4) (Some 5 ∷ None ∷ Some 6 ∷ Some 4 ∷ []) }
+    ensures not_least { AreNoEarlier (Some 5) (Some 5 ∷ None ∷ Some 6 ∷ Some 4 ∷ []) → ⊥ }
+    ensures without { AreNoEarlier None (Some 5 ∷ None ∷ Some 6 ∷ Some 4 ∷ []) → ⊥ }
+    ensures empty { AreNoEarlier None (None ∷ None ∷ []) }
 {}
 
 /// A desk serves until it is halted or closed. A call returns `Halted` exactly if the desk doesn't serve, and `TurnPassed`

@@ -49,6 +49,7 @@ ghost use Rattle.replay_main.specs.declared.program.ProgramFault.TheVariants as 
 ghost use Rattle.trace_talk.specs.declared.summary.Summary.{Summary};
 ghost use Rattle.sessions.specs.SessionMeaning.{slots};
 ghost use Rattle.replay_main.specs.ReplayArguments.{
+  AsksHelp,
   AsksReplay,
   AsksReplayBy,
   app,
@@ -59,6 +60,7 @@ ghost use Rattle.replay_main.specs.ReplayArguments.{
   workers_said,
 };
 ghost use Rattle.program_io.specs.Arguments.{Collects};
+ghost use Rattle.program_io.specs.Clusters.{cluster_first};
 ghost use Rattle.program_io.specs.Device.{TakesFront, WholeWrite};
 ghost use Rattle.replay_main.specs.WholeInput.{WholeRead};
 ghost use Rattle.replay_main.specs.ReplayProgram.{EndsReplay, status_of};
@@ -168,15 +170,15 @@ pub fn writes_that_are_told()
 {}
 
 /// By the words of the command line: without a fault in them the program does a replay, which is answered completely or ends
-/// with a fault of its own; a rehearsal never ends with `Close`. If help is requested, some text is written. If the words
-/// request nothing, nothing is read or written.
+/// with a fault of its own. A rehearsal never ends with `Close`, nor does one worker. If help is requested, some text is
+/// written. If the words request nothing, nothing is read or written.
 pub fn runs_that_are_told()
     ensures replayed { (words : List Text) (workers : ℕ) (left rest before after : Option (List ℕ)) (read_failed write_failed flushed : Bool) (u : Unit {0})
         → fault_of app words ≡ [] → workers_in words ≡ Some workers
         → EndsReplay words left rest read_failed before after write_failed flushed (Ok u)
         ↔ ((summary : Summary) × Replayed left read_failed before after write_failed flushed (Ok summary)) }
     ensures helped { (words : List Text) (left rest after : Option (List ℕ)) (before : List ℕ) (read_failed write_failed flushed : Bool) (u : Unit {0})
-        → IsAmong kind.DisplayHelp (fault_of app words)
+        → AsksHelp words
         → EndsReplay words left rest read_failed (Some before) after write_failed flushed (Ok u)
         ↔ ((rest ≡ left) × (read_failed ≡ false) × (write_failed ≡ false) × (flushed ≡ true)
         × ((text : List ℕ) × (after ≡ Some (before ++ text)))) }
@@ -198,8 +200,12 @@ pub fn runs_that_are_told()
         → rehearsal_in words ≡ true
         → EndsReplay words left rest read_failed before after write_failed flushed (Err (program.Replay fault.Close))
         → ⊥ }
+    ensures one_worker { (words : List Text) (left rest before after : Option (List ℕ)) (read_failed write_failed flushed : Bool)
+        → workers_in words ≡ Some 1
+        → EndsReplay words left rest read_failed before after write_failed flushed (Err (program.Replay fault.Close))
+        → ⊥ }
     ensures unwritten_help { (words : List Text) (left rest before after : Option (List ℕ)) (read_failed write_failed flushed : Bool) (f : ReplayFault)
-        → IsAmong kind.DisplayHelp (fault_of app words)
+        → AsksHelp words
         → EndsReplay words left rest read_failed before after write_failed flushed (Err (program.Replay f))
         ↔ ((f ≡ fault.Write) × (rest ≡ left) × (read_failed ≡ false) × (write_failed ≡ true)) }
 {}
@@ -233,7 +239,7 @@ pub fn digits_that_are_said()
 
 /// Without words the program does a replay by one worker. `--workers 3` requests three, and `--rehearse` a rehearsal. `--`
 /// alone changes nothing. A number that is not from 1 to 8, an unknown word, a missing number and a repeated one are a bad
-/// line. `--help` requests help.
+/// line, and so is a cluster of flags, as `-h1`, unless help is requested before it. `--help` and `-h` request help.
 pub fn words_that_ask()
     ensures none { AsksReplay [] (Ok (ask.Run 1 false)) }
     ensures workers { AsksReplay (codes "--workers" ∷ codes "3" ∷ []) (Ok (ask.Run 3 false)) }
@@ -251,6 +257,11 @@ pub fn words_that_ask()
     ensures twice { AsksReplay (codes "--workers" ∷ codes "2" ∷ codes "--workers" ∷ codes "3" ∷ []) (Err line.Bad) }
     ensures help { (text : String Global) → AsksReplay (codes "--help" ∷ []) (Ok (ask.Help text)) }
     ensures help_alone { AsksReplay (codes "--help" ∷ []) (Err line.Bad) → ⊥ }
+    ensures short_help { (text : String Global) → AsksReplay (codes "-h" ∷ []) (Ok (ask.Help text)) }
+    ensures cluster { AsksReplay (codes "-h1" ∷ []) (Err line.Bad) }
+    ensures flags { AsksReplay (codes "--rehearse" ∷ codes "-hV" ∷ []) (Err line.Bad) }
+    ensures no_help { (text : String Global) → AsksReplay (codes "-h1" ∷ []) (Ok (ask.Help text)) → ⊥ }
+    ensures ignored { (text : String Global) → AsksReplay (codes "--help" ∷ codes "-h1" ∷ []) (Ok (ask.Help text)) }
 {}
 
 /// Words that request a run request only that run: they are not a bad line and don't request help, and the number of workers
@@ -270,19 +281,23 @@ pub fn words_ask_for_one_run()
     ensures no_help { (words : List Text) (workers : ℕ) (rehearse : Bool) (text : String Global)
         → AsksReplay words (Ok (ask.Run workers rehearse)) → AsksReplay words (Ok (ask.Help text)) → ⊥ }
     ensures help { (words : List Text) (text : String Global) → AsksReplay words (Ok (ask.Help text))
-        ↔ IsAmong kind.DisplayHelp (fault_of app words) }
+        ↔ (IsAmong kind.DisplayHelp (fault_of app words) × (cluster_first words ≡ false)) }
     ensures memory { (words : List Text) → AsksReplay words (Err line.OutOfMemory) }
 {}
 
-/// An error is a request for help or makes a bad line, never both. Out of memory is not a bad line.
+/// An error is a request for help or makes a bad line, never both; a request by a cluster of flags makes a bad line. Out of
+/// memory is not a bad line.
 pub fn errors_that_ask()
-    ensures no_run { (k : ErrorKind) (workers : ℕ) (rehearse : Bool)
-        → AsksReplayBy k (Ok (ask.Run workers rehearse)) → ⊥ }
-    ensures help { (k : ErrorKind) (text : String Global)
-        → AsksReplayBy k (Ok (ask.Help text)) ↔ (k ≡ kind.DisplayHelp) }
-    ensures unknown { AsksReplayBy kind.UnknownArgument (Err line.Bad) }
-    ensures no_bad_help { AsksReplayBy kind.DisplayHelp (Err line.Bad) → ⊥ }
-    ensures no_bad_memory { AsksReplayBy kind.OutOfMemory (Err line.Bad) → ⊥ }
+    ensures no_run { (clustered : Bool) (k : ErrorKind) (workers : ℕ) (rehearse : Bool)
+        → AsksReplayBy clustered k (Ok (ask.Run workers rehearse)) → ⊥ }
+    ensures help { (clustered : Bool) (k : ErrorKind) (text : String Global)
+        → AsksReplayBy clustered k (Ok (ask.Help text))
+        ↔ ((k ≡ kind.DisplayHelp) × (clustered ≡ false)) }
+    ensures unknown { (clustered : Bool) → AsksReplayBy clustered kind.UnknownArgument (Err line.Bad) }
+    ensures bad_help { (clustered : Bool)
+        → AsksReplayBy clustered kind.DisplayHelp (Err line.Bad) ↔ (clustered ≡ true) }
+    ensures no_bad_memory { (clustered : Bool)
+        → AsksReplayBy clustered kind.OutOfMemory (Err line.Bad) → ⊥ }
 {}
 
 /// The collected arguments are exactly those that were given, in order. If they could be collected, the line is not bad on

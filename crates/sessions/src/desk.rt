@@ -76,11 +76,7 @@ impl Desk {
         ensures { IfOk result (λ s. s ≡ record { number = k; receipts = [] }) }
     {
         let shared = Arc::try_clone(&self.shared)?;
-        Ok(Session {
-            number: k,
-            receipts: Vec::new(self.alloc),
-            shared,
-        })
+        Ok(Session::at_desk(self, k, Vec::new(self.alloc), shared))
     }
 
     /// Waits until the log has `turn` entries, and returns its length at that moment, or `None` if

@@ -1,6 +1,7 @@
 //! A session, which runs commands at a desk and keeps a receipt of each.
 
 ghost use Rattle.std.specs.Prelude.{◌≡◌, IfErr, MatchResult};
+ghost use Rattle.std.specs.Arc.{arc_value};
 ghost use Rattle.std.specs.Borrow.{sem};
 ghost use Rattle.std.specs.Io.BufRead.{Rests};
 ghost use Rattle.undo_journal.specs.CommandMeaning.{command_of};
@@ -8,7 +9,7 @@ ghost use Rattle.sessions.specs.Receipts.{AddsReceipt, AddsReceiptAt, Last, Last
 ghost use Rattle.sessions.specs.Served.{IsLate, NamesNoTurn};
 
 use crate::shared::Shared;
-use crate::{Receipt, RunFault};
+use crate::{Desk, Receipt, RunFault};
 use std::alloc::Allocator;
 use std::marker::Model;
 use std::sync::{Arc, Wait};
@@ -22,7 +23,7 @@ pub struct Session {
     pub number: u8,
     /// A receipt of each command that the session ran, the newest last.
     pub receipts: Vec<Receipt>,
-    pub(crate) shared: Arc<Shared>,
+    shared: Arc<Shared>,
 }
 
 impl Model for Session {
@@ -35,6 +36,24 @@ impl Model for Session {
 
 impl Session {
     ghost use Rattle.sessions.specs.contracts.session.Session.{the_row};
+
+    /// A session at this desk, with which it shares the lock. No other function makes a session.
+    pub(crate) fn at_desk(
+        desk: &Desk,
+        number: u8,
+        receipts: Vec<Receipt>,
+        shared: Arc<Shared>,
+    ) -> Session
+        requires { arc_value shared ≡ arc_value desk.now.shared }
+        ensures { result ≡ record { number = number; receipts = receipts.items } }
+    {
+        let _ = desk;
+        Session {
+            number,
+            receipts,
+            shared,
+        }
+    }
 
     /// Runs one command while no other session runs one. Appends its receipt and returns it. The
     /// log entry and the receipt have the same number. The call may wait for other sessions.

@@ -2,7 +2,9 @@
 //! turn.
 
 ghost use Rattle.std.specs.Sync.Mutex.{mutex_guard_value};
+ghost use Rattle.std.specs.Prelude.{◌%◌, None, slice_index_or};
 ghost use Rattle.sessions.specs.Served.{IsEarly};
+ghost use Rattle.sessions.specs.Waits.{IsWoken};
 
 use crate::hall::Hall;
 use std::sync::{Condvar, Mutex, MutexGuard, Wait};
@@ -36,8 +38,29 @@ impl Shared {
     pub(crate) fn wait_for<R: Wait>(&self, rt: &R, session: u8, turn: u64) -> MutexGuard<'_, Hall>
         ensures { ¬ IsEarly (mutex_guard_value result) turn }
     {
-        let woken = &self.woken[usize::from(session % 8)];
-        woken.wait_while(rt, self.hall.lock(rt), |hall| hall.must_wait(session, turn))
+        let mut hall = self.hall.lock(rt);
+        for _ in rt.forever() {
+            if !hall.must_wait(session, turn) {
+                return hall;
+            }
+            hall = self.sleep(rt, hall, session, turn);
+        }
+        unreachable!()
+    }
+
+    /// Sleeps until it is woken, perhaps for no reason. Requires that the turn is noted, so that the
+    /// session that reaches it wakes this one.
+    fn sleep<'a, R: Wait>(
+        &self,
+        rt: &R,
+        hall: MutexGuard<'a, Hall>,
+        session: u8,
+        turn: u64,
+    ) -> MutexGuard<'a, Hall>
+        requires { IsWoken turn (slice_index_or (mutex_guard_value hall).waits (session % 8) None) }
+    {
+        let _ = turn;
+        self.woken[usize::from(session % 8)].wait(rt, hall)
     }
 
     /// Unlocks the hall, and wakes the sessions whose turns have come.

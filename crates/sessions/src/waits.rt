@@ -1,6 +1,6 @@
 //! The turns that sessions wait for.
 
-ghost use Rattle.std.specs.Prelude.{◌≡◌, ◌↔◌, ◌≤◌, ◌%◌, ℕ, IsTrue, IfSome, Some, None, slice_index_or, true};
+ghost use Rattle.std.specs.Prelude.{◌≡◌, ◌↔◌, ◌≤◌, ◌%◌, ℕ, IsTrue, IfSome, Some, None, replicate, slice_index_or, true};
 ghost use Rattle.sessions.specs.Waits.{AreDue, AreLeft, AreNoEarlier, IsDue, IsLeft, IsNoLater, IsWoken};
 
 use std::marker::Model;
@@ -30,7 +30,9 @@ impl Model for Waits {
 
 impl Waits {
     /// No turn is waited for.
-    pub(crate) fn none() -> Waits {
+    pub(crate) fn none() -> Waits
+        ensures { result ≡ replicate 8 None }
+    {
         Waits {
             turns: [None; 8],
             first: None,

@@ -7,6 +7,7 @@ use Rattle.clap.specs.declared.parser.matches.ArgMatches.{ArgMatches}
 use Rattle.clap.proofs.OnLiterals.{clap_on_literals}
 use Rattle.program_io.specs.declared.arguments.LineFault.{LineFault}
 use Rattle.program_io.specs.declared.arguments.LineFault.TheVariants.{Bad, OutOfMemory}
+use Rattle.program_io.specs.Clusters.{cluster_first}
 use Rattle.program_io.proofs.CommandLines.{nameless, value_in, help_is_not_out_of_memory}
 use Rattle.shell_main.specs.declared.arguments.Ask.{Ask}
 use Rattle.shell_main.specs.declared.arguments.Ask.TheVariants.{Serve, Help, Version}
@@ -38,12 +39,13 @@ flag_said_in a words m id value is h v = ap flag_said (value_in app app_simple a
 version_apart : kind.DisplayVersion ≡ kind.OutOfMemory → ⊥
 version_apart e = cc
 
-pub asks_by : (words : List Text) (k : ErrorKind) (r : Result Ask LineFault) → AsksShellBy k r → (k ≡ kind.OutOfMemory) ⊎ IsAmong k (fault_of app words) → AsksShell words r
+pub asks_by : (words : List Text) (k : ErrorKind) (r : Result Ask LineFault) → AsksShellBy (cluster_first words) k r → (k ≡ kind.OutOfMemory) ⊎ IsAmong k (fault_of app words)
+    → AsksShell words r
 asks_by words k (Ok (Serve file options)) h b = absurd h
-asks_by words k (Ok (Help text)) h (inl e) = absurd (help_is_not_out_of_memory (sym h ∙ e))
-asks_by words k (Ok (Help text)) h (inr a) = subst (λ x. IsAmong x (fault_of app words)) h a
-asks_by words k (Ok (Version text)) h (inl e) = absurd (version_apart (sym h ∙ e))
-asks_by words k (Ok (Version text)) h (inr a) = subst (λ x. IsAmong x (fault_of app words)) h a
-asks_by words k (Err Bad) h (inl e) = absurd (h.2 e)
-asks_by words k (Err Bad) h (inr a) = (k, a, h.0, h.1)
+asks_by words k (Ok (Help text)) h (inl e) = absurd (help_is_not_out_of_memory (sym h.0 ∙ e))
+asks_by words k (Ok (Help text)) h (inr a) = (subst (λ x. IsAmong x (fault_of app words)) h.0 a, h.1)
+asks_by words k (Ok (Version text)) h (inl e) = absurd (version_apart (sym h.0 ∙ e))
+asks_by words k (Ok (Version text)) h (inr a) = (subst (λ x. IsAmong x (fault_of app words)) h.0 a, h.1)
+asks_by words k (Err Bad) h (inl e) = absurd (h.1 e)
+asks_by words k (Err Bad) h (inr a) = record { fault = k; is_found = a; is_none = h.0 }
 asks_by words k (Err OutOfMemory) h b = tt

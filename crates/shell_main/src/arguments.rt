@@ -7,7 +7,7 @@ ghost use Rattle.shell_main.specs.ShellArguments.{AsksShell, AsksShellBy, IsBad,
 use crate::Options;
 use clap::error::ErrorKind;
 use clap::{Arg, ArgAction, Command, Error};
-use program_io::{LineFault, without_name};
+use program_io::{LineFault, cluster_first, without_name};
 use std::alloc::{AllocError, Global};
 
 /// The version of the project.
@@ -52,7 +52,7 @@ fn read_words<'a>(alloc: Global, words: &'a [String]) -> Result<Ask<'a>, LineFau
                 keeps_history: !is_true(matches.get_str("no-undo")),
             },
         }),
-        Err(error) => asked_by(alloc, &error),
+        Err(error) => asked_by(alloc, &error, cluster_first(words)),
     }
 }
 
@@ -130,11 +130,13 @@ fn is_true(value: Option<&str>) -> bool
     }
 }
 
-fn asked_by<'a>(alloc: Global, error: &Error) -> Result<Ask<'a>, LineFault>
-    ensures { AsksShellBy (kind_of error.now) result }
+/// What an error of `clap` requests. A request by a cluster of flags is a bad command line.
+fn asked_by<'a>(alloc: Global, error: &Error, is_clustered: bool) -> Result<Ask<'a>, LineFault>
+    ensures { AsksShellBy is_clustered (kind_of error.now) result }
 {
     let kind = error.kind();
     match kind {
+        ErrorKind::DisplayHelp | ErrorKind::DisplayVersion if is_clustered => Err(LineFault::Bad),
         ErrorKind::DisplayHelp | ErrorKind::DisplayVersion => {
             match format!(in alloc; "{error}") {
                 Ok(text) if matches!(kind, ErrorKind::DisplayHelp) => Ok(Ask::Help(text)),

@@ -4,7 +4,8 @@
 //! flushes it before it reads on. So a program in any language can send a line, look at the output, and send the next.
 //!
 //! - The output is that of `replay_main`, byte for byte: `answers` of `flat_model`. So are the two counts of the `Summary`.
-//! - Whenever bytes are read, exactly the output for the whole lines read before was written and flushed (`NothingOwed`).
+//! - Whenever bytes are read, exactly the output for the whole lines read before was written and flushed (`NothingOwed`). The
+//!   private `next_chunk` requires it; no public clause says it.
 //! - A fault of a shell says what failed. Before each fault but `Write`, exactly the output for whole lines was written;
 //!   before `Write`, a prefix of the output. A line of more than `TRACE_MAX` bytes is too long. Out of memory ends the
 //!   shell.

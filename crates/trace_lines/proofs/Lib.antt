@@ -2,3 +2,4 @@ pub mod TextCuts
 pub mod Readings
 pub mod Actions
 mod FaultOrder
+mod SameTexts

@@ -10,7 +10,7 @@ ghost use Rattle.trace_lines.specs.Replied.{AddsReply};
 
 use crate::TextFault;
 use crate::lines::Lines;
-use itoa::Buffer;
+use itoa::{Buffer, write_digits};
 use std::alloc::{AllocError, Global};
 use undo_journal::{Refusal, Reply};
 
@@ -26,8 +26,9 @@ fn put_number(bytes: &mut Vec<u8>, number: u64) -> Result<(), AllocError>
 fn put_ok(bytes: &mut Vec<u8>, number: u64) -> Result<(), AllocError>
     ensures { OnOk result (bytes.new.items ≡ bytes.old.items ++ ok_line number) }
 {
-    put_number(bytes, number)?;
-    bytes.extend_from_slice(b" ok\n")
+    let mut line = *b"00000000000000000000 ok\n";
+    let start = write_digits(number, &mut line, 20);
+    bytes.extend_from_slice(&line[start..])
 }
 
 /// Appends a line of a reply's text to the bytes.

@@ -91,11 +91,21 @@ impl<'a> Iterator for Words<'a> {
     }
 }
 
-/// Whether the word is this text.
+/// Whether the word is this text. It is a loop, since most words differ in their length or their first byte, and `==` of
+/// slices begins with a choice of how to compare them.
+#[inline(always)]
 pub(crate) fn is_word(word: &[u8], text: &[u8]) -> bool
     ensures { result ≡ same_name word.now text.now }
 {
-    word == text
+    if word.len() != text.len() {
+        return false;
+    }
+    for i in 0..text.len() {
+        if word[i] != text[i] {
+            return false;
+        }
+    }
+    true
 }
 
 /// The word, if it is the only one.

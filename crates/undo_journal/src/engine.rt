@@ -60,7 +60,7 @@ pub(crate) fn or_out_of_memory<A: Allocator + Clone>(
 
 impl<A: Allocator + Clone, M: Meter + Drop> Engine<A, M> {
     /// Creates an engine over an empty meter. Its hierarchy has only the root, with process 1 in it. It allocates the
-    /// root, the table of processes, and a table of free slots and one of parents for the meter's slots.
+    /// root, the table of processes, and tables of the meter's free slots and of hints.
     ///
     /// # Errors
     ///

@@ -76,13 +76,3 @@ pub(crate) fn refusal_to_show<A: Allocator + Clone, B: Allocator + Clone>(
         ShowFault::NoProcess => unreachable!(),
     }
 }
-
-/// Converts the fault `OutOfMemory`, the only one that the caller can have here, to an `AllocError`.
-pub(crate) fn out_of_memory(fault: ChargeFault) -> AllocError
-    requires { fault ≡ ChargeFault.OutOfMemory }
-{
-    match fault {
-        ChargeFault::OutOfMemory => AllocError,
-        _ => unreachable!(),
-    }
-}

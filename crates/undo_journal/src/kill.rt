@@ -12,7 +12,7 @@ ghost use Rattle.undo_journal.specs.Timeline.{becomes};
 
 use crate::command::Command;
 use crate::engine::Engine;
-use crate::faults::{out_of_memory, refusal_at};
+use crate::faults::refusal_at;
 use crate::inverse::Inverse;
 use crate::journal::JournalEntry;
 use crate::reply::Reply;
@@ -34,16 +34,12 @@ impl<A: Allocator + Clone, M: Meter> Engine<A, M> {
     {
         let named = path.copy(self.alloc.clone()?)?;
         self.journal.reserve(1)?;
-        match self.charges.kill_by(settler, who, path) {
-            Ok(list) => {
-                self.journal.push(JournalEntry {
-                    command: Command::Kill(named),
-                    inverse: Inverse::Killed { list },
-                })?;
-                Ok(())
-            }
-            Err(fault) => Err(out_of_memory(fault)),
-        }
+        let list = self.charges.take_processes(settler, who, path)?;
+        self.journal.push(JournalEntry {
+            command: Command::Kill(named),
+            inverse: Inverse::Killed { list },
+        })?;
+        Ok(())
     }
 
     pub(crate) fn kill<S: Settler, B: Allocator + Clone>(
@@ -75,8 +71,5 @@ pub(crate) fn undo_kill<A: Allocator + Clone, M: Meter, S: Settler>(
     ensures ok { OnOk result (charges.new ≡ back (model_inverse.Killed list.now) charges.old) }
     ensures err { OnErr result (charges.new ≡ charges.old) }
 {
-    match charges.place_all_by(settler, who, list.as_slice()) {
-        Ok(()) => Ok(()),
-        Err(fault) => Err(out_of_memory(fault)),
-    }
+    charges.put_processes_back(settler, who, list.as_slice())
 }

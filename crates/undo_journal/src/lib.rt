@@ -7,9 +7,9 @@
 //! everything then leaves the state at which it was called. So contracts also see how many recorded commands an engine
 //! has forgotten.
 //!
-//! - The journal records each accepted command that changes the state. It also records a fork that a `pids.max`
-//!   refused, because that raises event totals. It records no other refused command, no command that only reads, and no
-//!   undo.
+//! - The journal records each accepted command that isn't a read or an undo, also one that changes nothing, as a write of
+//!   the present limit. It also records a fork that a `pids.max` refused, because that raises event totals. It records no
+//!   other refused command.
 //! - `undo` undoes the newest recorded command, whichever session issued it, and checks nothing.
 //! - A refusal names its cause and changes nothing but those totals. Out of memory comes last and changes nothing: a
 //!   command allocates its record after all checks and before any change. A fork alone allocates it before it tests

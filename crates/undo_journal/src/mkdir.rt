@@ -12,7 +12,7 @@ ghost use Rattle.undo_journal.specs.Timeline.{becomes};
 
 use crate::command::Command;
 use crate::engine::Engine;
-use crate::faults::{out_of_memory, refusal_at};
+use crate::faults::refusal_at;
 use crate::inverse::Inverse;
 use crate::journal::JournalEntry;
 use crate::reply::Reply;
@@ -30,16 +30,12 @@ impl<A: Allocator + Clone, M: Meter> Engine<A, M> {
         let named = path.copy(self.alloc.clone()?)?;
         let made = named.share()?;
         self.journal.reserve(1)?;
-        match self.charges.make_group(path) {
-            Ok(()) => {
-                self.journal.push(JournalEntry {
-                    command: Command::MakeGroup(named),
-                    inverse: Inverse::Made { path: made },
-                })?;
-                Ok(())
-            }
-            Err(fault) => Err(out_of_memory(fault)),
-        }
+        self.charges.make_group(path)?;
+        self.journal.push(JournalEntry {
+            command: Command::MakeGroup(named),
+            inverse: Inverse::Made { path: made },
+        })?;
+        Ok(())
     }
 
     pub(crate) fn make_group<B: Allocator + Clone>(

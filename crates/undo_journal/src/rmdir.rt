@@ -13,7 +13,7 @@ ghost use Rattle.undo_journal.specs.Timeline.{becomes};
 
 use crate::command::Command;
 use crate::engine::Engine;
-use crate::faults::{out_of_memory, refusal_at};
+use crate::faults::refusal_at;
 use crate::inverse::Inverse;
 use crate::journal::JournalEntry;
 use crate::reply::Reply;
@@ -69,8 +69,5 @@ pub(crate) fn undo_rmdir<A: Allocator + Clone, M: Meter>(
     ensures ok { OnOk result (charges.new ≡ back (model_inverse.Removed path.now (group_of attr)) charges.old) }
     ensures err { OnErr result (charges.new ≡ charges.old) }
 {
-    match charges.restore(path, attr) {
-        Ok(()) => Ok(()),
-        Err(fault) => Err(out_of_memory(fault)),
-    }
+    charges.put_group_back(path, attr)
 }

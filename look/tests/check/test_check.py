@@ -7,7 +7,7 @@ import sys
 
 import pytest
 
-from makhloeum.check import known
+from makhloeum.check import known, recordings
 from makhloeum.check.differences import CONTRADICTION, difference
 from makhloeum.check.engine import Answer, Engine
 from makhloeum.check.playing import Difference
@@ -224,14 +224,16 @@ def test_each_worked_sequence_is_played_once():
 @pytest.mark.parametrize("ways", [["free"], ["D", "N", "T"], ["N"], []])
 def test_worked_sequences_are_the_recorded_ones(ways):
     """Each with its own way, where the directory has it, or freely; none of them twice."""
-    linux = pathlib.Path(__file__).parents[3] / "evidence" / "linux"
+    linux = pathlib.Path(__file__).parents[3] / "evidence" / "linux-6.12"
     wanted, seen = [], set()
-    for file in (*sorted((linux / "rows").glob("*.trace")), *sorted((linux / "text").glob("*.trace"))):
-        lines = [re.split("[ \t\r]+", line.strip(" \t\r")) for line in file.read_text("latin1").split("\n")]
+    recorded = [(kind, it) for kind in ("rows", "text") for it in recordings.of_set(str(linux), kind)]
+    for kind, recording in recorded:
+        trace = recording.trace.decode("latin1")
+        lines = [re.split("[ \t\r]+", line.strip(" \t\r")) for line in trace.split("\n")]
         way = "free" if ways == ["free"] else lines[0][2] if lines[0][:2] == ["#", "mode"] else "D"
         commands = [words for words in lines if words != [""] and not words[0].startswith("#")]
         if way in ways and (way, str(commands)) not in seen:
-            wanted.append((f"{file.parent.name}/{file.stem}", way, commands))
+            wanted.append((f"{kind}/{recording.name}", way, commands))
         seen.add((way, str(commands)))
     assert list(worked(ways)) == wanted and (len(wanted) > 10 or ways in (["N"], []))
 

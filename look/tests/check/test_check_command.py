@@ -5,7 +5,6 @@ import shlex
 import signal
 
 import pytest
-import support  # noqa: F401: it puts the package on the path
 
 from makhloeum.check import command, playing
 from makhloeum.check.engine import Answer, Engine

@@ -1,8 +1,9 @@
-"""The parts of `makhloeum check` that clean up, talk to the worker, compare and write scripts. bindings/python/tests/test_check.py
-has others, and look/test-check has the whole."""
+"""The parts of `makhloeum check` that clean up, talk to the worker, compare and write scripts. test_check.py has others,
+and look/test-check has the whole."""
 
 import errno
 import os
+import pathlib
 import re
 import signal
 import socket
@@ -12,7 +13,7 @@ import threading
 import types
 
 import pytest
-from support import HERE, open_files
+from open_files import open_files
 
 from makhloeum._table import PID_MAX
 from makhloeum.check import command, directory, known, opening, watching
@@ -505,8 +506,8 @@ def test_peaks_and_events_of_a_kernel():
 
 def test_the_names_of_known_differences_are_those_of_the_documents():
     """DECISIONS has one table of all of them, by the names that `check` and evidence/compare print."""
-    with open(os.path.join(HERE, "..", "..", "docs", "DECISIONS.md"), encoding="utf-8") as file:
-        table = re.findall(r"^\| `([^`]*)` \|", file.read(), re.M)
+    decisions = pathlib.Path(__file__).parents[3] / "docs" / "DECISIONS.md"
+    table = re.findall(r"^\| `([^`]*)` \|", decisions.read_text("utf-8"), re.M)
     constants = vars(known).items()
     names = [value for name, value in constants if name.isupper() and isinstance(value, str)]
     assert len(names) > 15 and sorted(table) == sorted(names)

@@ -9,7 +9,7 @@ import select
 import types
 
 import pytest
-from support import open_files
+from open_files import open_files
 
 from makhloeum import Hierarchy, Refused, mounted_at
 from makhloeum.check import command, directory, opening, playing
@@ -462,3 +462,10 @@ def test_an_open_file_that_keeps_its_first_text_is_found(player, monkeypatch):
         if found:
             break
     assert found and found.played[-1][0] == "reread" and Engine("free", [], False).close() is None
+
+
+@pytest.mark.parametrize("left", ["top3", "home3"])
+def test_groups_that_are_left_of_another_check_are_not_taken(tmp_path, left):
+    (tmp_path / left).mkdir()
+    with pytest.raises(FileExistsError):
+        Groups(str(tmp_path), 3, "free", 1.0, [])

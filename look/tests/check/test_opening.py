@@ -6,7 +6,6 @@ import errno
 import os
 
 import pytest
-import support  # noqa: F401: it puts the package on the path
 
 from makhloeum.check import opening
 from makhloeum.check.opening import NEEDED, Unusable, file_system, open_directory

@@ -3,7 +3,6 @@
 import os
 
 import pytest
-import support  # noqa: F401: it puts the package on the path
 
 from makhloeum.check import known, playing
 from makhloeum.check.engine import Answer

@@ -8,7 +8,6 @@ import time
 import traceback
 
 import pytest
-import support  # noqa: F401: it puts the package on the path
 
 from makhloeum.check import processes, worker
 from makhloeum.check.processes import Process, is_alive, leave_no_zombies, wait_for_end
@@ -115,6 +114,18 @@ def test_a_process_has_no_socket_of_the_worker():
         assert theirs.recv(1) == b"" and is_alive(first.pid) and is_alive(child.pid)
         for process in (child, first):
             process.slay()
+
+    in_a_child(body)
+
+
+def test_a_process_that_was_ended_leaves_no_socket():
+    def body():
+        before = sockets_of(os.getpid())
+        first = Process.first([])
+        child = first.fork()
+        assert len(sockets_of(os.getpid()) - before) == 2
+        assert child.end(PATIENCE) and first.slay(PATIENCE)
+        assert sockets_of(os.getpid()) == before
 
     in_a_child(body)
 
@@ -315,3 +326,15 @@ def test_an_abandoned_worker_takes_its_processes_along(monkeypatch):
 def test_names_of_errors():
     assert error_name(OSError(errno.EBUSY, "")) == "EBUSY" and error_name(OSError(4711, "")) == "errno 4711"
     assert error_name(OSError("without a number")) == "errno None"
+
+
+@pytest.mark.parametrize("seconds", [None, 0, 0.5])
+def test_how_long_an_answer_is_waited_for(monkeypatch, seconds):
+    """A limit of 0 is not none."""
+    told = []
+    monkeypatch.setattr(worker.select, "select", lambda *words: told.append(words[3]) or ([], [], []))
+    ours, theirs = socket.socketpair()
+    with ours, theirs, pytest.raises(Hang):
+        worker._Lines(ours).get(seconds)
+    (left,) = told
+    assert left is None if seconds is None else 0 <= left <= seconds

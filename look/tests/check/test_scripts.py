@@ -2,7 +2,7 @@
 
 import pytest
 
-from makhloeum.check.engine import Answer, Engine
+from makhloeum.check.engine import Answer, Engine, listing
 from makhloeum.check.playing import NO_ANSWER, Difference
 from makhloeum.check.script import explained, said, shell_script
 
@@ -300,3 +300,9 @@ def test_the_state_of_the_engine(engine):
         str(Answer("EBUSY", "text", "hasprocesses")) == "EBUSY (hasprocesses)"
         and str(Answer("ok", "1\n")) == "ok '1\\n'"
     )
+
+
+def test_a_listing_is_in_the_order_of_names():
+    """A directory gives its names in an order of its own."""
+    assert listing(["b", "a", "c"], ["pids.max", "cgroup.kill"]) == "a b c\ncgroup.kill pids.max\n"
+    assert listing([], []) == "\n\n"

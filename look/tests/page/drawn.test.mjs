@@ -1,11 +1,11 @@
 // What the parts of the page draw, element by element: plots, rows of the tree, lists, widths. test_browser.py and its like have
 // the same in a real browser, with a layout.
-//   node --test look/tests/drawn.test.mjs
+//   node --test look/tests/page/drawn.test.mjs
 import assert from "node:assert";
 import test from "node:test";
 import { Element, observed } from "./document.mjs";
 
-const folder = new URL("../../bindings/python/makhloeum/look/", import.meta.url);
+const folder = new URL("../../page/", import.meta.url);
 const { LIMIT, LOCAL, PEAK, TOTAL, Run, treeRows } = await import(new URL("state.mjs", folder));
 const { plotOf } = await import(new URL("figure.mjs", folder));
 const { nameWidth, processes, treeRow } = await import(new URL("groups.mjs", folder));
@@ -149,6 +149,14 @@ test("the cells of a row", () => {
   const refusedBelow = treeRow(its, { group: { ...its.state.groups.get(1), numbers: [-1, -1, -1, 0, 0, 2, 0], own: 0 }, level: 1, children: 2, closed: true }, view({ chosen: 1 }));
   assert.deepStrictEqual([texts(refusedBelow)[5], refusedBelow.children[5].className, texts(refusedBelow)[0]], ["0 / 2", "number-cell refused", "▸a"]);
   assert.deepStrictEqual([refusedBelow.ariaExpanded, refusedBelow.ariaSelected, refusedBelow.className], ["false", "true", "row chosen"]);
+});
+
+test("a row says its place among those beside it, and their number", () => {
+  const its = run(), group = its.go(7).groups.get(1);
+  const row = treeRow(its, { group, level: 1, place: 2, beside: 5, children: 0 }, view());
+  const rest = treeRow(its, { group: null, of: its.state.groups.get(0), level: 1, place: 5, beside: 6, rest: 3 }, view());
+  assert.deepStrictEqual([row.ariaLevel, row.ariaPosInSet, row.ariaSetSize], ["2", "2", "5"]);
+  assert.deepStrictEqual([rest.ariaLevel, rest.ariaPosInSet, rest.ariaSetSize], ["2", "5", "6"]);
 });
 
 test("each cell and the label have their own number", () => {
@@ -404,4 +412,19 @@ test("the handle is dragged from where it was taken", () => {
     handle.dispatch("pointermove", { clientX: 900 });
     assert.strictEqual(box.style["--name"], "290px", end);
   }
+});
+
+test("rows become higher with their letters", () => {
+  const box = new Element("div"), append = box.append.bind(box);
+  let tall = 27.5;
+  box.id = "list";
+  box.clientHeight = 110;
+  box.append = (...nodes) => (append(...nodes), nodes.forEach((node) => (node.box = { ...node.box, height: node.className === "row sample" ? tall : 0 })));
+  const list = new Rows(box, "option", () => make("div", { className: "row" }));
+  list.show(100);
+  const tops = () => box.children[0].children.slice(0, 3).map((row) => row.style.top);
+  assert.deepStrictEqual([box.children.length, box.children[0].style.height, tops()], [1, "2750px", ["0px", "27.5px", "55px"]]);
+  tall = 44;
+  observed.find(([element]) => element === box)[1]();
+  assert.deepStrictEqual([box.children.length, box.children[0].style.height, tops()], [1, "4400px", ["0px", "44px", "88px"]]);
 });

@@ -1,8 +1,8 @@
 // What the page shows at the edges of numbers: none, one, and thousands; and of many groups.
-//   node --test look/tests/edges.test.mjs
+//   node --test look/tests/page/edges.test.mjs
 import assert from "node:assert";
 import test from "node:test";
-import { DATA, open, window } from "./opened.mjs";
+import { DATA, LINES, open, window } from "./opened.mjs";
 
 const cells = ({ at }) => Object.fromEntries(at("group").children[0].children.map((row) => row.children.map((cell) => cell.textContent)));
 const thousands = (count, more = {}) => ({ ...DATA, lines: Array(count).fill("exit 9").join("\n"), answer: Array(count).fill(0), steps: Array(count).fill(0), notes: {}, ...more });
@@ -95,4 +95,36 @@ test("a process or a plot that has the focus keeps it when the details and plots
   window.dispatch("resize");
   assert.notStrictEqual(document.activeElement, plot);
   assert.deepStrictEqual([document.activeElement.dataset.key, buttons(plots).includes(document.activeElement)], [plot.dataset.key, true]);
+});
+
+test("each row says its place and how many there are", async () => {
+  const page = await open(DATA), said = (id) => page.rows(id).map((row) => [row.ariaPosInSet, row.ariaSetSize]);
+  page.key("Home");
+  page.at("list").dispatch("scroll");
+  assert.deepStrictEqual(said("list"), LINES.map((_, at) => [String(at + 1), "12"]));
+  for (let at = 0; at < 6; at++) page.key("ArrowRight");
+  assert.deepStrictEqual(said("tree"), [["1", "1"], ["1", "1"], ["1", "1"]], "a group that is alone below another one");
+  const many = await open(thousands(2345), "#line=1000"), row = many.rows("list")[5];
+  assert.deepStrictEqual([row.ariaPosInSet, row.ariaSetSize], [String(row.dataset.at + 1), "2345"], "those out of sight count too");
+});
+
+test("keys scroll a long answer that has the focus, and others stay the page's", async () => {
+  const page = await open(DATA, "#line=4"), answer = page.at("answer"), keys = ["ArrowUp", "ArrowDown", "PageUp", "PageDown", "Home", "End", " "];
+  const told = (name) => [page.key(name, { target: answer }).prevented, page.moment()];
+  Object.assign(answer, { scrollHeight: 400, clientHeight: 130 });
+  for (const key of keys) assert.deepStrictEqual(told(key), [false, 4], key);
+  assert.deepStrictEqual([told("ArrowRight"), told("ArrowLeft")], [[true, 5], [true, 4]]);
+  Object.assign(answer, { scrollHeight: 130 });
+  assert.deepStrictEqual([told("ArrowDown"), told("ArrowUp"), told("Home")], [[true, 5], [true, 4], [true, 0]], "a whole answer has nothing to scroll");
+  Object.assign(page.at("more"), { scrollHeight: 400, clientHeight: 130 });
+  assert.deepStrictEqual(page.key("End", { target: page.at("more") }).prevented, true);
+});
+
+test("plots have the width of a paper while the page is printed", async () => {
+  const page = await open(DATA), widths = () => page.at("plots").querySelectorAll("svg").map((svg) => svg.getAttribute("viewBox"));
+  const before = widths();
+  window.dispatch("beforeprint");
+  assert.deepStrictEqual([before.length > 0, new Set(before), new Set(widths())], [true, new Set(["0 0 400 108"]), new Set(["0 0 680 108"])]);
+  window.dispatch("afterprint");
+  assert.deepStrictEqual(widths(), before);
 });

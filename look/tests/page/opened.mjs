@@ -3,7 +3,7 @@
 import { readFileSync } from "node:fs";
 import { Element } from "./document.mjs";
 
-const folder = new URL("../../bindings/python/makhloeum/look/", import.meta.url);
+const folder = new URL("../../page/", import.meta.url);
 export const { CURRENT, DEPTH, DESCENDANTS, LIMIT, LOCAL, PEAK, TOTAL } = await import(new URL("state.mjs", folder));
 export const html = readFileSync(new URL("page.html", folder), "utf8");
 

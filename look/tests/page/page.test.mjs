@@ -1,6 +1,6 @@
 // What the page shows of a moment, and how its controls, keys and links get to another, without a browser. test_browser.py and its
 // like have the same in a real one.
-//   node --test look/tests/page.test.mjs
+//   node --test look/tests/page/page.test.mjs
 import assert from "node:assert";
 import test from "node:test";
 import { Element, observed } from "./document.mjs";

@@ -1,9 +1,9 @@
 // Which rows the tree has, which groups are plotted first, and where ticks, steps and marks of a plot lie.
-//   node --test look/tests/rows.test.mjs
+//   node --test look/tests/page/rows.test.mjs
 import assert from "node:assert";
 import test from "node:test";
 
-const folder = new URL("../../bindings/python/makhloeum/look/", import.meta.url);
+const folder = new URL("../../page/", import.meta.url);
 const { CURRENT, LIMIT, LOCAL, PEAK, TOTAL, Run, treeRows } = await import(new URL("state.mjs", folder));
 const { columns, momentAt, scale, stepPath, ticks } = await import(new URL("plot.mjs", folder));
 const { search } = await import(new URL("search.mjs", folder));
@@ -50,6 +50,16 @@ test("up to fifty groups side by side are shown, of more the first twenty", () =
   assert.deepStrictEqual(named(run, kept.slice(-4)), ["1 g019", "1 g020", "1 g059", "1 +38"]);
   const open = treeRows(run.state, new Set(), new Set([0]), new Set());
   assert.deepStrictEqual([open.length, open.at(-1).rest, open.at(-1).of.id], [62, 0, 0]);
+});
+
+test("each row has its place among those beside it, folded ones included", () => {
+  const run = made(["b", "a", "x", "y", "z"], [0, 0, 2, 2, 2]), places = (rows) => rows.map(({ place, beside }) => `${place} of ${beside}`);
+  assert.deepStrictEqual(places(treeRows(run.go(5), ...none())), ["1 of 1", "1 of 2", "1 of 3", "2 of 3", "3 of 3", "2 of 2"]);
+  const many = made(Array.from({ length: 60 }, (_, at) => `g${String(at).padStart(3, "0")}`)), folded = treeRows(many.go(60), new Set(), new Set(), new Set([5, 21, 60]));
+  assert.deepStrictEqual(places(folded.slice(-4)), ["20 of 61", "21 of 61", "60 of 61", "61 of 61"], "the row for the rest is the last");
+  assert.deepStrictEqual(places(treeRows(many.state, new Set(), new Set([0]), new Set()).slice(-2)), ["60 of 61", "61 of 61"]);
+  const fifty = made(Array.from({ length: 50 }, (_, at) => `g${at}`));
+  assert.deepStrictEqual(places(treeRows(fifty.go(50), ...none()).slice(-1)), ["50 of 50"]);
 });
 
 test("some of the processes of a group", () => {

@@ -1,11 +1,11 @@
 // What has no document: the state at each moment, searches, lives, series, rows, and the shapes of plots.
-//   node --test look/tests/state.test.mjs
+//   node --test look/tests/page/state.test.mjs
 // MAKHLOEUM_RUN is a file with a run as the page has it, and with what the engine said of every moment (test_history.py makes it).
 import assert from "node:assert";
 import { readFileSync } from "node:fs";
 import test from "node:test";
 
-const folder = new URL("../../bindings/python/makhloeum/look/", import.meta.url);
+const folder = new URL("../../page/", import.meta.url);
 const { LIMIT, PEAK, TOTAL, LOCAL, CURRENT, Run, treeRows } = await import(new URL("state.mjs", folder));
 const { groupOf, refusalsOf, search } = await import(new URL("search.mjs", folder));
 const { columns, momentAt, scale, stepPath, ticks } = await import(new URL("plot.mjs", folder));
@@ -141,6 +141,15 @@ test("the group of a command", () => {
   );
   const told = ["/", "/a", "/a/b", "/", "/a/b", "/a", "/a", "/", "/a/b", "/a/b", "/a/b", "/a/b", "/a/b", "/"];
   assert.deepStrictEqual(told.map((_, moment) => group(moment, back)), told, "an undo is about what the undone command names");
+});
+
+test("a refused command is about the group that refused it", () => {
+  const there = answered(
+    ["mkdir /a", "ok", 0, 1], ["mkdir /a/b", "ok", 0, 2], ["mkdir /a/b/c", "refused depth /a"], ["mkdir /a/b/c", "refused descendants /"],
+    ["mkdir /a/b", "refused exists"],
+  );
+  const wanted = ["/a", "/a/b", "/a", "/", "/a/b"];
+  assert.deepStrictEqual(wanted.map((_, at) => (there.go(at + 1), there.paths[groupOf(there, at)])), wanted);
 });
 
 test("a path that the run has not stands for the nearest group above it", () => {

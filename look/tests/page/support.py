@@ -8,13 +8,13 @@ import sys
 from typing import List
 
 HERE = os.path.dirname(os.path.abspath(__file__))
-PYTHON = os.path.join(HERE, "..", "..", "bindings", "python")
+PYTHON = os.path.join(HERE, "..", "..", "..", "bindings", "python")
 sys.path.insert(0, PYTHON)
-sys.path.append(os.path.join(PYTHON, "tests"))  # for what the tests of both folders share
+sys.path.append(os.path.join(PYTHON, "tests"))  # for what its own tests have besides
 
 from makhloeum import Hierarchy  # noqa: E402
-from makhloeum.look.history import History  # noqa: E402
-from makhloeum.look.page import page  # noqa: E402
+from makhloeum.page.history import History  # noqa: E402
+from makhloeum.page.page import page  # noqa: E402
 from open_files import open_files  # noqa: E402, F401
 
 PATHS = ["/a", "/b", "/a/x", "/a/y", "/a/x/deep", "/a/x/deep/er", "/b/x"]

@@ -7,10 +7,10 @@ from support import history_of
 
 from makhloeum import Hierarchy
 from makhloeum._table import LINE_MAX
-from makhloeum.look import history as module
-from makhloeum.look.history import History, shown
-from makhloeum.look.page import data, page
-from makhloeum.look.state import CURRENT, DEPTH, DESCENDANTS, FILES, LIMIT, LOCAL, PEAK, TOTAL, Copy
+from makhloeum.page import history as module
+from makhloeum.page.history import History, shown
+from makhloeum.page.page import data, page
+from makhloeum.page.state import CURRENT, DEPTH, DESCENDANTS, FILES, LIMIT, LOCAL, PEAK, TOTAL, Copy
 
 TRACE = b"mkdir /a\nmkdir /a/b\nfork 1 2\nwrite /a/b cgroup.procs 2\nwrite /a pids.max 1\nfork 2 3\n"
 

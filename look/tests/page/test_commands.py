@@ -17,12 +17,13 @@ from support import HERE, PYTHON
 
 import makhloeum
 from makhloeum import Hierarchy
-from makhloeum.look.tree import draw, of_directory, of_hierarchy
+from makhloeum._library import library
+from makhloeum.page.tree import draw, of_directory, of_hierarchy
 
 # what would change how a tree is drawn
 OTHERS = {name: word for name, word in os.environ.items() if name not in ("COLUMNS", "LINES", "NO_COLOR")}
 WORDS = dict(OTHERS, PYTHONPATH=os.path.realpath(PYTHON), PYTHONDONTWRITEBYTECODE="1")
-PROGRAM = os.environ.get("MAKHLOEUM") or os.path.join(HERE, "..", "..", "mount", "out", "makhloeum")
+PROGRAM = os.environ.get("MAKHLOEUM") or os.path.join(HERE, "..", "..", "..", "mount", "out", "makhloeum")
 
 
 def run(*words, text=b"", **how):
@@ -61,7 +62,7 @@ def test_a_command_finds_its_package_through_a_link(tmp_path):
     )
     for folder in (command.parent, link.parent, tmp_path / "share" / "makhloeum"):
         folder.mkdir(parents=True)
-    shutil.copy(os.path.join(HERE, "..", "makhloeum-command"), command)
+    shutil.copy(os.path.join(HERE, "..", "..", "makhloeum-command"), command)
     (tmp_path / "share" / "makhloeum" / "python").symlink_to(os.path.realpath(PYTHON))
     link.symlink_to(command)
     without = {name: value for name, value in WORDS.items() if name != "PYTHONPATH"}
@@ -80,23 +81,49 @@ def test_view_says_in_one_sentence_what_is_wrong(tmp_path):
         ([trace, trace], 2, "bad command line"),
         ([trace, "-x"], 2, "bad command line"),
         ([trace, "-o"], 2, "bad command line"),
-        ([tmp_path / "none"], 1, "No such file"),
+        ([tmp_path / "none"], 1, f"makhloeum view: {tmp_path}/none: No such file or directory\n"),
+        ([tmp_path], 1, f"makhloeum view: {tmp_path}: Is a directory\n"),
         ([trace, "-o", trace], 2, "would replace the trace"),
-        ([trace, "-o", tmp_path / "no" / "page"], 1, "No such file"),
-        ([trace, "-o", "/dev/full"], 1, "No space left"),
+        (
+            [trace, "-o", tmp_path / "no" / "page"],
+            1,
+            f"makhloeum view: {tmp_path}/no/page: No such file or directory\n",
+        ),
+        ([trace, "-o", "/dev/full"], 1, "makhloeum view: /dev/full: No space left on device\n"),
         ([bad], 1, "no line of"),
     ):
         got, out, error = run("view", *map(str, words))
         assert (got, out) == (status, "") and said in error and error.count("\n") == 1, (words, got, error)
     assert trace.read_text() == "mkdir /a\n"
+    with open(tmp_path / "written", "wb") as unreadable:
+        view = [sys.executable, "-m", "makhloeum", "view", "-"]
+        ran = subprocess.run(view, stdin=unreadable, capture_output=True, env=WORDS, timeout=600)
+    assert (ran.returncode, ran.stderr) == (1, b"makhloeum view: standard input: Bad file descriptor\n")
+
+
+def test_the_packages_are_found_in_a_checkout_and_in_an_installation(tmp_path):
+    subprocess.run([os.path.join(PYTHON, "..", "package"), tmp_path], check=True)
+    says = "import makhloeum, makhloeum.page, makhloeum.check as it; print(*makhloeum.__path__, makhloeum.page.__path__[0], it.__path__[0])"
+    checkout, look = os.path.realpath(PYTHON), os.path.realpath(os.path.join(HERE, "..", ".."))
+    package = str(tmp_path / "makhloeum")
+    for folder, expected in (
+        (checkout, [f"{checkout}/makhloeum", look, f"{look}/page", f"{look}/check"]),
+        (str(tmp_path), [package, f"{package}/page", f"{package}/check"]),
+    ):
+        words = dict(WORDS, PYTHONPATH=folder, MAKHLOEUM_LIBRARY=library._name)
+        ran = subprocess.run([sys.executable, "-c", says], capture_output=True, text=True, env=words, timeout=600)
+        assert (ran.stdout.split(), ran.stderr) == (expected, "")
 
 
 def test_commands_that_are_missing(tmp_path):
-    if os.path.exists(os.path.join(PYTHON, "makhloeum", "check.py")) or os.path.isdir(
-        os.path.join(PYTHON, "makhloeum", "check")
-    ):
-        return
-    assert run("check", "x") == (2, "", "makhloeum: check is not part of this installation\n")
+    subprocess.run([os.path.join(PYTHON, "..", "package"), tmp_path], check=True)
+    shutil.rmtree(tmp_path / "makhloeum" / "check")
+    words = dict(WORDS, PYTHONPATH=str(tmp_path), MAKHLOEUM_LIBRARY=library._name)
+    ran = subprocess.run(
+        [sys.executable, "-m", "makhloeum", "check", "x"], capture_output=True, text=True, env=words, timeout=600
+    )
+    said = (ran.returncode, ran.stdout, ran.stderr)
+    assert said == (2, "", "makhloeum: check is not part of this installation\n")
 
 
 # ---- tree

@@ -11,9 +11,9 @@ import pytest
 from support import HERE, HOSTILE, FILES, history_of, long_trace, page_of, random_trace, wide_trace
 
 from makhloeum import Hierarchy, Refused
-from makhloeum.look.history import History, shown
-from makhloeum.look.listing import FEW, Listing
-from makhloeum.look.page import data, script
+from makhloeum.page.history import History, shown
+from makhloeum.page.listing import FEW, Listing
+from makhloeum.page.page import data, script
 
 NODE = shutil.which("node") or shutil.which("nodejs")
 

@@ -162,3 +162,33 @@ def test_a_link_opens_at_its_moment(browser, pages, hash, wanted):
     browser.open("about:blank")
     browser.open(pages("demo", demo()) + hash)
     assert browser.text("#moment").startswith(wanted) and browser.complaints() == []
+
+
+def test_a_long_answer_scrolls_by_keys(browser, pages):
+    """Once Tab has reached it. The keys that scroll nothing are the page's."""
+    b = browser
+    forks = "".join(f"fork 1 {pid}\n" for pid in range(2, 102))
+    b.open("about:blank")
+    b.open(pages("hundred", forks + "cat / cgroup.procs\n") + "#line=101")
+    b.run(FOCUS, "#list")
+    b.press("tab")
+    assert b.run("return document.activeElement.id") == "answer"
+    top = "return document.getElementById('answer').scrollTop"
+    end = b.run("const it = document.getElementById('answer'); return it.scrollHeight - it.clientHeight")
+    for key, is_reached in (
+        ("down", lambda at: 10 < at),
+        ("page down", lambda at: 90 < at),
+        ("end", lambda at: at > end - 1),
+        ("up", lambda at: at < end - 10),
+        ("page up", lambda at: at < end - 90),
+        ("home", lambda at: at == 0),
+        (" ", lambda at: 50 < at),
+    ):
+        b.press(key)
+        assert b.until(lambda: is_reached(b.run(top))), key
+    assert moment(b) == 101 and b.run(PRESSED) == []
+    b.press("left")
+    assert moment(b) == 100
+    b.press("down")
+    assert moment(b) == 101, "an answer that is whole has nothing to scroll"
+    assert b.complaints() == []

@@ -2,16 +2,20 @@
 
 import io
 import os
+import queue
 import re
+import threading
 
 import pytest
 from support import open_files
 
 from makhloeum import PidsMax, mounted_at
-from makhloeum.look import tree, view
-from makhloeum.look.tree import Node, draw, of_directory
+from makhloeum.page import tree, view
+from makhloeum.page.tree import Node, draw, of_directory
 
-LONG = 120  # seconds: a wait ends at once if what it waits for has come
+# seconds: a wait ends at once if what it waits for has come
+LONG = 15 if os.environ.get("FAIL_FAST") else 120
+WEEK = 7 * 24 * 3600
 
 
 def node(name="g", processes=(), below=(), **numbers):
@@ -363,6 +367,41 @@ def test_a_watch_draws_changes_until_the_directory_is_gone(tmp_path, monkeypatch
     assert [text.count("top") for text in screen.flushed] == [1, 2] and followed == [None, 3, 3], "each is seen at once"
 
 
+class Ended(Exception):
+    """Ends a watch."""
+
+
+def test_what_is_announced_is_drawn_at_once(monkeypatch):
+    """On the busiest machine too: without the announcement it would be drawn in a week."""
+    drawn = queue.Queue()
+    monkeypatch.setattr(Screen, "flush", lambda self: drawn.put(self.getvalue()))
+
+    def watched():
+        with pytest.raises(Ended):
+            tree.watch("/cg", WEEK, Screen(False))
+        drawn.put("the end")
+
+    def ends(folder):
+        raise Ended
+
+    with mounted_at("/cg") as h:
+        h.mkdir("/a")
+        h.write("/a", "pids.max", 1)
+        h.write("/a", "cgroup.procs", 1)
+        thread = threading.Thread(target=watched, daemon=True)
+        thread.start()
+        assert "refused" not in drawn.get(timeout=LONG)
+        for count in (1, 2):
+            with pytest.raises(PidsMax):
+                h.fork(1, 2)
+            assert f"refused {count} here, {count} in all" in drawn.get(timeout=LONG)
+        monkeypatch.setattr(tree, "of_directory", ends)
+        with pytest.raises(PidsMax):
+            h.fork(1, 2)
+        assert drawn.get(timeout=LONG) == "the end"
+        thread.join(LONG)
+
+
 def test_changes_that_come_together_are_drawn_once(tmp_path, monkeypatch):
     """After a change it waits another 20 ms, but no longer than the time between two looks."""
     (tmp_path / "cgroup.procs").write_text("")
@@ -475,3 +514,38 @@ def test_a_page_without_memory(tmp_path, monkeypatch, capsys):
     monkeypatch.setattr(view, "page", fails)
     assert view.main([str(tmp_path / "t")]) == 1 and capsys.readouterr() == ("", "makhloeum view: out of memory\n")
     assert not (tmp_path / "t.html").exists()
+
+
+def test_a_change_before_its_file_is_watched_is_drawn_at_once(monkeypatch):
+    """However long a busy machine takes between both. The looks at the directory are the moments at which something changes."""
+    changes = [lambda h: h.mkdir("/a/b"), lambda h: h.write("/a/b", "pids.max", 5)]
+    waits, looks, out = [], [], io.StringIO()
+
+    class Ended(Exception):
+        pass
+
+    def look(folder, name=None):
+        found = of_directory(folder, name)
+        if name is None:
+            looks.append(folder)
+        if name is None and changes:
+            changes.pop(0)(h)
+        return found
+
+    def wait(self, seconds):
+        waits.append((seconds, len(self.files), out.getvalue()))
+        raise Ended
+
+    monkeypatch.setattr(tree, "of_directory", look)
+    monkeypatch.setattr(tree.Watch, "wait", wait)
+    with mounted_at("/cg") as h:
+        h.mkdir("/a")
+        with pytest.raises(Ended):
+            tree.watch("/cg", LONG, out)
+        ((seconds, files, drawn),) = waits
+    assert [line.split()[:2] for line in drawn.splitlines()] == [
+        ["/cg", "1"],
+        ["└─", "a"],
+        ["└─", "b"],
+    ] and "0/5" in drawn
+    assert (seconds, files, len(looks)) == (LONG, 4, 3), "it looks again only after it has opened a file"

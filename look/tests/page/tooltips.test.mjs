@@ -1,6 +1,6 @@
 // What the page says of its keys and controls is what they do: the tooltip of a button names a key that does the same, and the line at
 // the foot names each key.
-//   node --test look/tests/tooltips.test.mjs
+//   node --test look/tests/page/tooltips.test.mjs
 import assert from "node:assert";
 import test from "node:test";
 import { DATA, html, open, timers } from "./opened.mjs";
@@ -52,7 +52,7 @@ test("the tooltips and labels say what each of them does", () => {
 
 test("the foot names each key, with what it does", async () => {
   const foot = /<footer>([^]*)<\/footer>/.exec(html)[1].replace(/<\/?kbd>/g, "").replace(/\s+/g, " ").trim();
-  assert.strictEqual(foot, "Keys: ← → one command, PgUp PgDn twenty, Home End, Space play, b state before, / search, n N matches, r first refusal of the group, p its plot. In the tree: ↑ ↓ choose, Enter fold.");
+  assert.strictEqual(foot, "Keys: ← → one command, PgUp PgDn twenty, Home End, Space play, b state before, / search, n N matches, r first refusal of the group, p its plot. In the tree: ↑ ↓ choose, Enter fold. In a long answer keys scroll it.");
   const many = { ...DATA, lines: Array(50).fill("exit 9").join("\n"), answer: Array(50).fill(0), steps: Array(50).fill(0), notes: {} };
   for (const [key, wanted] of [["ArrowLeft", 24], ["ArrowRight", 26], ["PageUp", 5], ["PageDown", 45], ["Home", 0], ["End", 50], ["x", 25], ["R", 25], ["B", 25]]) {
     const page = await open(many, "#line=25");

@@ -33,7 +33,8 @@ def is_there() -> bool:
 class Browser:
     """One headless Chromium with a driver and a folder of its own."""
 
-    def __init__(self, width: int = 1400, height: int = 900, scrollbars: bool = False) -> None:
+    def __init__(self, width: int = 1400, height: int = 900, scrollbars: bool = False, letters: int = 0) -> None:
+        """`letters` is the size of letters that a person has chosen for all pages, in pixels; the usual one without."""
         self.folder = tempfile.mkdtemp(prefix="look-")
         words = dict(os.environ, HOME=self.folder, TMPDIR=self.folder)
         self.driver = subprocess.Popen(
@@ -53,8 +54,15 @@ class Browser:
             arguments = ["--headless=new", f"--window-size={width},{height}", "--force-device-scale-factor=1"]
             arguments += [] if scrollbars else ["--hide-scrollbars"]
             arguments += ["--no-sandbox"] if os.getuid() == 0 else []
-            arguments += ["--disable-gpu", "--disable-dev-shm-usage", f"--user-data-dir={self.folder}/profile"]
-            options = {"binary": chromium(), "args": arguments}
+            arguments += [
+                "--disable-gpu",
+                "--disable-dev-shm-usage",
+                "--disable-smooth-scrolling",
+                f"--user-data-dir={self.folder}/profile",
+            ]
+            options: Dict[str, Any] = {"binary": chromium(), "args": arguments}
+            if letters:
+                options["prefs"] = {"webkit.webprefs.default_font_size": letters}
             wanted = {"goog:chromeOptions": options, "goog:loggingPrefs": {"browser": "ALL"}}
             made = self._ask("POST", "/session", {"capabilities": {"alwaysMatch": wanted}})
             self.session = "/session/" + made["sessionId"]

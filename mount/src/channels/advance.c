@@ -1,5 +1,5 @@
-#include "advance.h"
-#include "shared.h"
+#include "channels/advance.h"
+#include "channels/shared_memory.h"
 #include <stdatomic.h>
 #include <stddef.h>
 #include <stdint.h>
@@ -8,12 +8,13 @@
    reservation, or 0. */
 enum { PLACES = 512, EACH = 8, ALL = 2 * PLACES };
 
+/* Both processes change a place, each by one atomic operation: so exactly one of them gets a reservation. */
 static _Atomic uint64_t *places;
 static size_t given; /* by the server, and not taken back by it: the supervisor may have taken them */
 
 bool advance_begin(void)
 {
-	places = shared_new(ALL * sizeof *places);
+	places = shared_memory_new(ALL * sizeof *places);
 	return places != NULL;
 }
 

@@ -1,11 +1,11 @@
-#include "passing.h"
+#include "channels/descriptor_passing.h"
 #include <string.h>
 #include <sys/socket.h>
 #include <unistd.h>
 
-bool passing_send(int to, const void *bytes, size_t size, const int *fds, size_t count)
+bool descriptor_passing_send(int to, const void *bytes, size_t size, const int *fds, size_t count)
 {
-	char room[CMSG_SPACE(PASSED_MAX * sizeof *fds)] = { 0 };
+	char room[CMSG_SPACE(DESCRIPTORS_MAX * sizeof *fds)] = { 0 };
 	struct iovec all = { (void *)(size_t)bytes, size };
 	struct msghdr message = { .msg_iov = &all,
 		.msg_iovlen = 1,
@@ -21,9 +21,9 @@ bool passing_send(int to, const void *bytes, size_t size, const int *fds, size_t
 	return sendmsg(to, &message, MSG_NOSIGNAL) == (ssize_t)size;
 }
 
-bool passing_take(int from, void *bytes, size_t size, int *fds, size_t count, int flags)
+bool descriptor_passing_take(int from, void *bytes, size_t size, int *fds, size_t count, int flags)
 {
-	char room[CMSG_SPACE(PASSED_MAX * sizeof *fds)];
+	char room[CMSG_SPACE(DESCRIPTORS_MAX * sizeof *fds)];
 	struct iovec all = { bytes, size };
 	struct msghdr message = { .msg_iov = &all, .msg_iovlen = 1, .msg_control = room, .msg_controllen = sizeof room };
 	ssize_t n = recvmsg(from, &message, flags | MSG_CMSG_CLOEXEC);

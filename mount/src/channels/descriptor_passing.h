@@ -1,15 +1,15 @@
 /* Descriptors that one process of makhloeum passes to another, with a few bytes, by a socket. */
-#ifndef PASSING_H
-#define PASSING_H
+#ifndef DESCRIPTOR_PASSING_H
+#define DESCRIPTOR_PASSING_H
 
 #include <stdbool.h>
 #include <stddef.h>
 
-enum { PASSED_MAX = 2 };
+enum { DESCRIPTORS_MAX = 2 };
 
 /* False with errno. */
-bool passing_send(int to, const void *bytes, size_t size, const int *fds, size_t count);
+bool descriptor_passing_send(int to, const void *bytes, size_t size, const int *fds, size_t count);
 /* Takes one message with this number of bytes and of descriptors; `flags` as for recvmsg. False if there is none, or another. */
-bool passing_take(int from, void *bytes, size_t size, int *fds, size_t count, int flags);
+bool descriptor_passing_take(int from, void *bytes, size_t size, int *fds, size_t count, int flags);
 
 #endif

@@ -1,5 +1,5 @@
-#include "roots.h"
-#include "shared.h"
+#include "channels/roots.h"
+#include "channels/shared_memory.h"
 #include <stdatomic.h>
 #include <stddef.h>
 
@@ -7,7 +7,7 @@ static atomic_bool *changed; /* shared by the supervisor and the helper */
 
 bool roots_begin(void)
 {
-	changed = shared_new(sizeof *changed);
+	changed = shared_memory_new(sizeof *changed);
 	return changed != NULL;
 }
 

@@ -1,10 +1,10 @@
 /* Memory that this process shares with those that it makes. */
-#ifndef SHARED_H
-#define SHARED_H
+#ifndef SHARED_MEMORY_H
+#define SHARED_MEMORY_H
 
 #include <stddef.h>
 
 /* It is zero at first. NULL with errno if there is none. */
-void *shared_new(size_t size);
+void *shared_memory_new(size_t size);
 
 #endif

@@ -1,54 +1,58 @@
-#include "news.h"
-#include "shared.h"
+#include "channels/supervisor_events.h"
+#include "channels/shared_memory.h"
 #include <stdatomic.h>
 #include <stddef.h>
 
 enum { ROOM = 256 };
 
-/* A ring: one process writes, and one reads. The numbers of the next place count on, and wrap around. */
+/* A ring: one process writes, and one reads, with the engine's lock. The numbers of the next place count on, and wrap around. It needs
+   no lock between the two. If the server is killed, nobody reads, and the supervisor finds that out by its socket when the ring is
+   full. */
 static struct shared {
 	atomic_uint written, read;
 	atomic_bool kills;
-	struct news {
+	struct supervisor_event {
 		unsigned reservation;
 		pid_t thread;
 	} all[ROOM];
 } * shared;
 
-bool news_begin(void)
+bool supervisor_events_begin(void)
 {
-	shared = shared_new(sizeof *shared);
+	shared = shared_memory_new(sizeof *shared);
 	return shared != NULL;
 }
 
-bool news_tell(unsigned reservation, pid_t thread)
+bool supervisor_events_put(unsigned reservation, pid_t thread)
 {
 	unsigned next = atomic_load(&shared->written);
 	if (next - atomic_load(&shared->read) == ROOM)
 		return false;
-	shared->all[next % ROOM] = (struct news){ reservation, thread };
+	shared->all[next % ROOM] = (struct supervisor_event){ reservation, thread };
+	/* last: the reader takes all places below this number */
 	atomic_store(&shared->written, next + 1);
 	return true;
 }
 
-bool news_hear(unsigned *reservation, pid_t *thread)
+bool supervisor_events_take(unsigned *reservation, pid_t *thread)
 {
 	unsigned next = shared ? atomic_load(&shared->read) : 0;
 	if (!shared || next == atomic_load(&shared->written))
 		return false;
 	*reservation = shared->all[next % ROOM].reservation;
 	*thread = shared->all[next % ROOM].thread;
+	/* last: from then on the writer may use the place again */
 	atomic_store(&shared->read, next + 1);
 	return true;
 }
 
-void news_set_kills(bool kills)
+void supervisor_events_set_kills(bool kills)
 {
 	if (shared)
 		atomic_store(&shared->kills, kills);
 }
 
-bool news_is_killing(void)
+bool supervisor_events_is_killing(void)
 {
 	return atomic_load(&shared->kills);
 }

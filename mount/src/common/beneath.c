@@ -1,4 +1,5 @@
-#include "beneath.h"
+#include "common/beneath.h"
+#include "common/kernel.h"
 #include <fcntl.h>
 #include <linux/openat2.h>
 #include <stdint.h>
@@ -16,7 +17,7 @@ int beneath_open(int root, const char *path, int flags)
 bool beneath_identify(int fd, struct mount_id *out)
 {
 	struct statx st;
-	if (statx(fd, "", AT_EMPTY_PATH | AT_STATX_DONT_SYNC | AT_NO_AUTOMOUNT, STATX_INO | STATX_MNT_ID, &st))
+	if (!describe(fd, STATX_INO | STATX_MNT_ID, &st))
 		return false;
 	*out = (struct mount_id){ st.stx_dev_major, st.stx_dev_minor, st.stx_mnt_id };
 	return true;

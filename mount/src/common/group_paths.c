@@ -1,7 +1,8 @@
-#include "place.h"
-#include <makhloeum.h>
+#include "common/group_paths.h"
 #include <stdio.h>
 #include <string.h>
+
+const char cgroup_mount[] = "/sys/fs/cgroup", cgroup_source[] = "cgroup2", group_attribute[] = "system.makhloeum.group";
 
 bool is_root(const char *group)
 {
@@ -40,10 +41,4 @@ void seen_from(const char *root, const char *group, char out[PATH_MAX_SAID])
 		if (*up == '/')
 			n += (size_t)snprintf(out + n, PATH_MAX_SAID - n, "/..");
 	snprintf(out + n, PATH_MAX_SAID - n, "%s", n == 0 && !group[common] ? "/" : group + common);
-}
-
-int path_fault(const char *path)
-{
-	size_t position;
-	return -mk_path_errno(mk_path_fault((const uint8_t *)path, strlen(path), &position));
 }

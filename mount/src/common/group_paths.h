@@ -1,14 +1,18 @@
 /* Paths of groups. */
-#ifndef PLACE_H
-#define PLACE_H
+#ifndef GROUP_PATHS_H
+#define GROUP_PATHS_H
 
-#include "bounds.h"
+#include "common/bounds.h"
 #include <stdbool.h>
+
+/* Under `run`: where the hierarchy is mounted, and its name in mount tables; `makhloeum mount` has another. */
+extern const char cgroup_mount[], cgroup_source[];
+/* Under `run` each group has this attribute, which no list shows: the path of the group. A request by a descriptor looks up no
+   name. */
+extern const char group_attribute[];
 
 enum { PATH_MAX_SAID = PATH_BYTES + 1 };
 
-/* 0 if it is a path of the trace language; else the errno of a mkdir with this fault of a path, negative. */
-int path_fault(const char *path);
 /* The group above; the root's is the root. */
 void go_up(char *group);
 bool is_root(const char *group);

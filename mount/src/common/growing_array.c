@@ -1,9 +1,9 @@
-#include "room.h"
+#include "common/growing_array.h"
 #include <stdlib.h>
 
 enum { FIRST = 64 };
 
-void *with_room(void *array, size_t count, size_t *room, size_t each)
+void *growing_array_make_room(void *array, size_t count, size_t *room, size_t each)
 {
 	if (count <= *room)
 		return array;

@@ -1,9 +1,12 @@
-#include "status.h"
-#include "cleanup.h"
+#include "common/proc_status.h"
+#include "common/cleanup.h"
 #include <fcntl.h>
+#include <linux/mount.h>
 #include <string.h>
+#include <sys/mount.h>
+#include <sys/syscall.h>
 
-bool status_line(pid_t pid, const char *key, char *out, size_t size)
+bool proc_status_line(pid_t pid, const char *key, char *out, size_t size)
 {
 	char path[40], some[4096];
 	size_t wanted = strlen(key), at = 0, kept = 0; /* `at` is the place in the line */
@@ -31,14 +34,14 @@ bool status_line(pid_t pid, const char *key, char *out, size_t size)
 	return false;
 }
 
-long status_number(pid_t pid, const char *key)
+long proc_status_number(pid_t pid, const char *key)
 {
 	char line[512];
-	const char *last = status_line(pid, key, line, sizeof line) ? strrchr(line, '\t') : NULL;
+	const char *last = proc_status_line(pid, key, line, sizeof line) ? strrchr(line, '\t') : NULL;
 	return last ? strtol(last + 1, NULL, 10) : -1;
 }
 
-ssize_t status_text(const char *path, char *out, size_t size)
+ssize_t proc_status_text(const char *path, char *out, size_t size)
 {
 	size_t done = 0;
 	ssize_t n = -1;
@@ -47,4 +50,11 @@ ssize_t status_text(const char *path, char *out, size_t size)
 		done += (size_t)n;
 	out[done] = 0;
 	return fd < 0 || n < 0 ? -errno : (ssize_t)done;
+}
+
+bool proc_status_enter(void)
+{
+	cleanup_fd int proc = (int)syscall(SYS_open_tree, AT_FDCWD, "/proc",
+		OPEN_TREE_CLONE | OPEN_TREE_CLOEXEC | AT_RECURSIVE);
+	return proc < 0 ? chdir("/proc") == 0 : fchdir(proc) == 0;
 }

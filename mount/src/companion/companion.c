@@ -1,9 +1,8 @@
-#include "companion.h"
-#include "cleanup.h"
-#include "operations.h"
-#include "own.h"
-#include "place.h"
-#include "space.h"
+#include "companion/companion.h"
+#include "common/cleanup.h"
+#include "common/group_paths.h"
+#include "common/own_processes.h"
+#include "common/proc_status.h"
 #include <errno.h>
 #include <fcntl.h>
 #include <signal.h>
@@ -69,7 +68,7 @@ static void touch(const struct mounted *m, const char *path)
 	cleanup_fd int found = m->root < 0 ? look_up(m) : -1;
 	int root = m->root < 0 ? found : m->root;
 	for (int i = 0; root >= 0 && i < TRIES && !touch_once(root, &m->is, path); i++)
-		usleep(10000);
+		usleep(10000); /* there was no memory: nothing tells when there is some */
 }
 
 /* The server has ended. If it was killed, its mount is still there and answers nobody. Any other mount stays. */
@@ -119,15 +118,19 @@ static void let_go(int *from, int *root)
 
 /* The companion of a mount outlives the server, so it forks twice, and nobody has to wait for it. The companion of a run
    ends with the supervisor, even if the program has stopped it. */
-static void live(int from, const char *mountpoint, int root, pid_t parent)
+static void live(int from, const char *mountpoint, int root, pid_t parent, const sigset_t *mask)
 {
 	struct mounted m = { .at = mountpoint, .root = root };
 	/* before the second fork: who waits for the first child knows that these end the companion no more */
-	signal(SIGTERM, SIG_IGN);
-	signal(SIGINT, SIG_IGN);
+	if (root < 0) {
+		signal(SIGTERM, SIG_IGN);
+		signal(SIGINT, SIG_IGN);
+	} else
+		own_processes_ignore_signals();
+	sigprocmask(SIG_SETMASK, mask, NULL); /* it cannot fail: there is such a way */
 	if (root < 0 && fork())
 		_exit(0);
-	if (root >= 0 && (!own_dies_with(parent) || !space_stand_in_proc() || !beneath_identify(root, &m.is)))
+	if (root >= 0 && (!own_processes_die_with(parent) || !proc_status_enter() || !beneath_identify(root, &m.is)))
 		_exit(1);
 	if (root < 0 && chdir("/proc") && chdir("/")) /* without /proc it can only unmount */
 		_exit(1);
@@ -141,14 +144,19 @@ bool companion_start(struct companion *out, const char *mountpoint, int root)
 {
 	int ends[2], fault;
 	pid_t self = getpid();
+	sigset_t all, mask;
 	if (socketpair(AF_UNIX, SOCK_SEQPACKET | SOCK_CLOEXEC, 0, ends))
 		return false;
+	/* these cannot fail: the signals exist. The program may run, and send some, before the child has ignored them */
+	sigfillset(&all);
+	sigprocmask(SIG_BLOCK, &all, &mask);
 	pid_t pid = fork();
 	fault = errno;
 	if (pid == 0) {
 		close(ends[1]);
-		live(ends[0], mountpoint, root, self);
+		live(ends[0], mountpoint, root, self, &mask);
 	}
+	sigprocmask(SIG_SETMASK, &mask, NULL); /* as above */
 	close(ends[0]);
 	if (pid < 0) {
 		close(ends[1]);
@@ -168,12 +176,17 @@ bool companion_show(int to, const struct mount_id *which)
 	return send(to, told, sizeof told, MSG_NOSIGNAL) == (ssize_t)sizeof told;
 }
 
+bool companion_tell_now(int to, const char *path)
+{
+	return send(to, path, strlen(path), MSG_NOSIGNAL | MSG_DONTWAIT) >= 0;
+}
+
 bool companion_tell(int to, const char *path)
 {
 	while (send(to, path, strlen(path), MSG_NOSIGNAL) < 0) {
 		if (errno != EINTR && errno != ENOBUFS && errno != ENOMEM)
 			return false;
-		usleep(10000);
+		usleep(10000); /* as above */
 	}
 	return true;
 }

@@ -1,8 +1,7 @@
-#include "engine.h"
-#include "bounds.h"
-#include "buffer.h"
-#include "joined.h"
-#include "serve.h"
+#include "engine/engine.h"
+#include "common/bounds.h"
+#include "common/message.h"
+#include "engine/undo_steps.h"
 #include <errno.h>
 #include <makhloeum.h>
 #include <pthread.h>
@@ -18,10 +17,12 @@ enum { TIME_MAX = 48, FIRST_ANSWER = 16384, FORGET_AT = 1024 };
 
 static pthread_mutex_t lock = PTHREAD_MUTEX_INITIALIZER;
 static mk_handle engine;
-static struct kept *trace, *answers;
+static struct trace_file *trace, *answers;
+/* what follows is used with the lock: so is each text that a call returns, which lasts until the next call */
 static bool has_history, told_long;
 static _Thread_local bool holds_lock;
 static uint64_t number = 1; /* of the next line that is kept */
+static size_t depth; /* how many commands can be undone: asked once after each line that may change it */
 static char line[LINE_BYTES];
 static size_t line_size;
 static struct timespec started;
@@ -33,9 +34,31 @@ static struct {
 	off_t trace, answers;
 } several;
 
+/* Bytes whose room grows. */
+struct buffer {
+	char *at;
+	size_t size, room;
+};
+
+/* False if out of memory: then nothing has changed. */
+static bool buffer_make_room(struct buffer *b, size_t room)
+{
+	if (room <= b->room)
+		return true;
+	size_t want = b->room ? b->room : 4096;
+	while (want < room)
+		want *= 2;
+	char *at = realloc(b->at, want);
+	if (!at)
+		return false;
+	b->at = at;
+	b->room = want;
+	return true;
+}
+
 static struct buffer answer, text, names, paths, past;
 
-bool engine_start(struct kept *trace_to, struct kept *answers_to, bool history)
+bool engine_start(struct trace_file *trace_to, struct trace_file *answers_to, bool history)
 {
 	trace = trace_to;
 	answers = answers_to;
@@ -54,8 +77,8 @@ void engine_end(void)
 	free(names.at);
 	free(paths.at);
 	free(past.at);
-	kept_close(trace);
-	kept_close(answers);
+	trace_file_close(trace);
+	trace_file_close(answers);
 }
 
 static void (*calls_first)(void);
@@ -139,17 +162,17 @@ static int error_of(uint32_t status, uint32_t code)
 /* What an answered line did to the engine's records. */
 enum effect { NOTHING, RECORDED, UNDONE };
 
-static enum effect effect_since(size_t depth)
+static enum effect effect_since(size_t before)
 {
-	size_t now = engine_depth();
-	return now > depth ? RECORDED : now < depth ? UNDONE : NOTHING;
+	mk_depth(&engine, &depth); /* it cannot fail: there is an engine */
+	return depth > before ? RECORDED : depth < before ? UNDONE : NOTHING;
 }
 
 /* Brings back the state before the line that was answered: what it recorded is undone, and what it undid is done again. */
 static bool step_back(enum effect effect)
 {
 	uint32_t code, status;
-	size_t depth = engine_depth();
+	size_t before = depth;
 	if (effect == NOTHING)
 		return true;
 	if (effect == UNDONE) {
@@ -163,7 +186,8 @@ static bool step_back(enum effect effect)
 		memcpy(line, "undo", line_size);
 	}
 	status = ask(0, &code);
-	return (status == MK_DONE || status == MK_REFUSED) && effect_since(depth) == (effect == UNDONE ? RECORDED : UNDONE);
+	return (status == MK_DONE || status == MK_REFUSED) &&
+		effect_since(before) == (effect == UNDONE ? RECORDED : UNDONE);
 }
 
 /* Prints a warning, once, if the trace is longer than cgreplay reads, and marks the place in the trace by a comment. */
@@ -175,7 +199,7 @@ static void tell_long(void)
 	told_long = true;
 	say("%s is longer than 16,777,216 bytes, which cgreplay refuses: replay it by cgshell < %s", trace->name,
 		trace->name);
-	kept_add(trace, mark, sizeof mark - 1);
+	trace_file_add(trace, mark, sizeof mark - 1);
 }
 
 /* Keeps the first `*size` bytes of `line` behind a comment that says when, since the engine's start. `*size` is then that
@@ -189,10 +213,21 @@ static int keep_line(size_t *size)
 	int n = snprintf(both, TIME_MAX, "# at %lld.%06lld\n", passed / 1000000, passed % 1000000);
 	memcpy(both + n, line, *size);
 	*size += (size_t)n;
-	return kept_add(trace, both, *size);
+	return trace_file_add(trace, both, *size);
 }
 
-/* `line` has the text; 0 or -errno */
+/* False if out of memory: then nothing has changed. */
+static bool forget(void)
+{
+	bool done = mk_forget(&engine) == MK_DONE;
+	if (done)
+		depth = 0;
+	return done;
+}
+
+/* `line` has the text; 0 or -errno. The line is kept before the engine is asked, and its answer after that: a device without room refuses
+   an operation, and never leaves the trace behind the state. If this process is killed between, the trace has one line more than
+   there are answers. */
 static int ask_and_keep(void)
 {
 	uint32_t code;
@@ -200,21 +235,21 @@ static int ask_and_keep(void)
 	size_t size = line_size + 1;
 	line[line_size] = '\n';
 	line[size] = 0;
-	if (!has_history && !several.are_open && engine_depth() >= FORGET_AT)
-		mk_forget(&engine);
-	size_t depth = engine_depth();
+	if (!has_history && !several.are_open && depth >= FORGET_AT)
+		forget();
+	size_t before = depth;
 	if (trace->fd >= 0 && (fault = keep_line(&size)))
 		return fault;
 	uint32_t status = ask(number, &code);
-	enum effect effect = effect_since(depth);
+	enum effect effect = effect_since(before);
 	if (status != MK_DONE && status != MK_REFUSED && status != MK_FAULT)
 		fault = -ENOMEM; /* nothing has changed: so the line was never there */
-	else if (answers->fd >= 0 && (fault = kept_add(answers, answer.at, answer.size)) && !step_back(effect))
+	else if (answers->fd >= 0 && (fault = trace_file_add(answers, answer.at, answer.size)) && !step_back(effect))
 		trace->broken = answers->broken =
 			EIO; /* out of memory: the state is ahead of the answers, and goes no further */
 	if (fault) {
 		if (trace->fd >= 0)
-			kept_take_back(trace, size);
+			trace_file_take_back(trace, size);
 		return fault;
 	}
 	number++;
@@ -225,9 +260,9 @@ static int ask_and_keep(void)
 int engine_begin(void)
 {
 	WANTS_LOCK();
-	int fault = has_history ? joined_make_room() : 0;
+	int fault = has_history ? undo_steps_make_room() : 0;
 	several.are_open = fault == 0;
-	several.depth = engine_depth();
+	several.depth = depth;
 	several.number = number;
 	several.trace = trace->size;
 	several.answers = answers->size;
@@ -241,17 +276,17 @@ int engine_finish(int fault)
 	WANTS_LOCK();
 	several.are_open = false;
 	if (fault == 0 && has_history)
-		joined_add(several.depth, engine_depth());
-	if (fault == 0 || engine_depth() == several.depth)
+		undo_steps_add(several.depth, depth);
+	if (fault == 0 || depth == several.depth)
 		return fault;
-	while (are_undone && engine_depth() > several.depth)
+	while (are_undone && depth > several.depth)
 		are_undone = step_back(RECORDED);
 	if (!are_undone) {
 		trace->broken = answers->broken = EIO;
 		return fault;
 	}
-	kept_take_back(trace, (size_t)(trace->size - several.trace));
-	kept_take_back(answers, (size_t)(answers->size - several.answers));
+	trace_file_take_back(trace, (size_t)(trace->size - several.trace));
+	trace_file_take_back(answers, (size_t)(answers->size - several.answers));
 	number = several.number;
 	return fault;
 }
@@ -351,9 +386,7 @@ int engine_groups(const char *top, const char **found, size_t *count)
 
 size_t engine_depth(void)
 {
-	size_t depth = 0;
 	WANTS_LOCK();
-	mk_depth(&engine, &depth);
 	return depth;
 }
 
@@ -379,9 +412,9 @@ int engine_limit(const char *group, uint64_t *limit)
 int engine_forget(void)
 {
 	WANTS_LOCK();
-	if (mk_forget(&engine) != MK_DONE)
+	if (!forget())
 		return -ENOMEM;
-	joined_cut(0);
+	undo_steps_cut(0);
 	return 0;
 }
 
@@ -396,4 +429,10 @@ int engine_history(size_t from, const char **lines, size_t *size)
 	*lines = past.at;
 	*size = info.len;
 	return status == MK_DONE ? 0 : -ENOMEM;
+}
+
+int engine_path_fault(const char *path)
+{
+	size_t position;
+	return -mk_path_errno(mk_path_fault((const uint8_t *)path, strlen(path), &position));
 }

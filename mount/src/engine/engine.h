@@ -1,8 +1,14 @@
-/* One engine behind one lock, asked line by line; and what is kept of the lines. */
+/* One engine behind one lock, asked line by line; and what is kept of the lines.
+
+   The folder engine: the engine, its lock, its history, and the files of --trace and --answers.
+   Who runs it: the server, with the engine's lock. The supervisor makes the engine before the server starts, and frees its own copy then.
+   Who has the lock waits for writes to these two files and for nothing else. So a line is asked and kept in one step, and
+   no thread waits long for the lock.
+   It may not touch any path after the mount began: both files are opened before. It knows no file of a group, no process and no run. */
 #ifndef ENGINE_H
 #define ENGINE_H
 
-#include "kept.h"
+#include "engine/trace_file.h"
 #include <stdbool.h>
 #include <stddef.h>
 #include <stdint.h>
@@ -10,7 +16,7 @@
 
 /* Makes the engine. Each line goes to `trace` before it is asked, and its answer to `answers`: cgreplay < TRACE writes the
    same. Without `history` commands cannot be undone, and take no memory once they are answered. */
-bool engine_start(struct kept *trace, struct kept *answers, bool history);
+bool engine_start(struct trace_file *trace, struct trace_file *answers, bool history);
 void engine_end(void);
 
 /* All calls below want the lock, and so does all that the mount remembers beside the engine. A build with CHECK_LOCK ends
@@ -56,5 +62,8 @@ int engine_forget(void);
 
 /* The recorded commands from a place on, oldest first, as a trace; the oldest has place 0. 0 or -ENOMEM */
 int engine_history(size_t from, const char **lines, size_t *size);
+
+/* 0 if it is a path of the trace language; else the errno of a mkdir with this fault of a path, negative. */
+int engine_path_fault(const char *path);
 
 #endif

@@ -1,5 +1,5 @@
-#include "kept.h"
-#include "serve.h"
+#include "engine/trace_file.h"
+#include "common/message.h"
 #include <errno.h>
 #include <fcntl.h>
 #include <string.h>
@@ -18,9 +18,9 @@ static int open_to_write(const char *name, bool *was_made)
 	return fd;
 }
 
-bool kept_open(struct kept *k, const char *name)
+bool trace_file_open(struct trace_file *k, const char *name)
 {
-	*k = (struct kept){ .fd = -1, .name = name };
+	*k = (struct trace_file){ .fd = -1, .name = name };
 	if (!name)
 		return true;
 	k->fd = open_to_write(name, &k->was_made);
@@ -35,13 +35,13 @@ bool kept_open(struct kept *k, const char *name)
 	return true;
 }
 
-bool kept_is_same(const struct kept *a, const struct kept *b)
+bool trace_file_is_same(const struct trace_file *a, const struct trace_file *b)
 {
 	return a->fd >= 0 && b->fd >= 0 && S_ISREG(a->is.st_mode) && a->is.st_dev == b->is.st_dev &&
 		a->is.st_ino == b->is.st_ino;
 }
 
-bool kept_begin(struct kept *k)
+bool trace_file_begin(struct trace_file *k)
 {
 	if (k->fd < 0 || !S_ISREG(k->is.st_mode) || ftruncate(k->fd, 0) == 0)
 		return true;
@@ -49,7 +49,7 @@ bool kept_begin(struct kept *k)
 	return false;
 }
 
-void kept_abandon(struct kept *k)
+void trace_file_abandon(struct trace_file *k)
 {
 	if (k->fd >= 0 && k->was_made)
 		unlink(k->name);
@@ -59,12 +59,12 @@ void kept_abandon(struct kept *k)
 }
 
 /* Cuts off what a refused text left. If that fails too, the next text overwrites it, or the close cuts it off. */
-static void cut_rest(struct kept *k)
+static void cut_rest(struct trace_file *k)
 {
 	k->has_rest = ftruncate(k->fd, k->size) != 0;
 }
 
-static int fault_of(struct kept *k, size_t done)
+static int fault_of(struct trace_file *k, size_t done)
 {
 	int fault = errno ? errno : EIO;
 	if (S_ISREG(k->is.st_mode))
@@ -74,7 +74,7 @@ static int fault_of(struct kept *k, size_t done)
 	return -fault;
 }
 
-int kept_add(struct kept *k, const char *bytes, size_t size)
+int trace_file_add(struct trace_file *k, const char *bytes, size_t size)
 {
 	bool regular = S_ISREG(k->is.st_mode);
 	if (k->broken)
@@ -93,14 +93,14 @@ int kept_add(struct kept *k, const char *bytes, size_t size)
 	return 0;
 }
 
-void kept_take_back(struct kept *k, size_t size)
+void trace_file_take_back(struct trace_file *k, size_t size)
 {
 	k->size -= (off_t)size;
 	if (S_ISREG(k->is.st_mode))
 		cut_rest(k);
 }
 
-void kept_close(struct kept *k)
+void trace_file_close(struct trace_file *k)
 {
 	if (k->fd < 0)
 		return;

@@ -1,12 +1,12 @@
-/* A file that is kept: each text is added at its end, completely or not at all. */
-#ifndef KEPT_H
-#define KEPT_H
+/* A file of --trace or --answers: each text is added at its end, completely or not at all. */
+#ifndef TRACE_FILE_H
+#define TRACE_FILE_H
 
 #include <stdbool.h>
 #include <stddef.h>
 #include <sys/stat.h>
 
-struct kept {
+struct trace_file {
 	int fd; /* -1: nothing is kept */
 	struct stat is;
 	off_t size; /* of a regular file, how much of it counts: the rest is a part that a full device left */
@@ -18,16 +18,16 @@ struct kept {
 
 /* Opens without changing the content. A regular file (made with mode 0600) or a character device; false after an error
    message. Without a name nothing is kept. */
-bool kept_open(struct kept *kept, const char *name);
-bool kept_is_same(const struct kept *a, const struct kept *b);
+bool trace_file_open(struct trace_file *file, const char *name);
+bool trace_file_is_same(const struct trace_file *a, const struct trace_file *b);
 /* Empties it, before the first text. */
-bool kept_begin(struct kept *kept);
-/* Closes it, and removes it if kept_open made it. */
-void kept_abandon(struct kept *kept);
+bool trace_file_begin(struct trace_file *file);
+/* Closes it, and removes it if trace_file_open made it. */
+void trace_file_abandon(struct trace_file *file);
 /* 0 or -errno: then nothing was added, and the next try may succeed. */
-int kept_add(struct kept *kept, const char *bytes, size_t size);
+int trace_file_add(struct trace_file *file, const char *bytes, size_t size);
 /* Removes the newest text again. */
-void kept_take_back(struct kept *kept, size_t size);
-void kept_close(struct kept *kept);
+void trace_file_take_back(struct trace_file *file, size_t size);
+void trace_file_close(struct trace_file *file);
 
 #endif

@@ -1,11 +1,13 @@
-#include "mounting.h"
-#include "cleanup.h"
-#include "groups.h"
-#include "memory.h"
-#include "opening.h"
-#include "passing.h"
-#include "spaces.h"
-#include "stand_in.h"
+#include "helper/mounting.h"
+#include "channels/descriptor_passing.h"
+#include "common/cleanup.h"
+#include "common/kernel.h"
+#include "common/namespaces.h"
+#include "helper/mount_contexts.h"
+#include "helper/mount_root.h"
+#include "helper/path_lookup.h"
+#include "helper/program_memory.h"
+#include "helper/stand_in.h"
 #include <fcntl.h>
 #include <limits.h>
 #include <linux/capability.h>
@@ -17,7 +19,7 @@
 #include <sys/stat.h>
 #include <sys/syscall.h>
 
-enum { NAME = 16, PAGE = 4096 };
+enum { NAME = 16 };
 
 /* The C library's header for mount conflicts with linux/mount.h. */
 extern int mount(const char *source, const char *target, const char *type, unsigned long flags, const void *data);
@@ -42,8 +44,8 @@ static bool may_mount_groups(pid_t thread)
 int mounting_root(pid_t thread, char *out, size_t size)
 {
 	char name[48], text[PATH_MAX_SAID + 8];
-	snprintf(name, sizeof name, "/.makhloeum.0.%u", spaces_of(thread));
-	cleanup_fd int fd = groups_open(name, O_RDONLY);
+	snprintf(name, sizeof name, "/.makhloeum.0.%u", namespaces_cgroup_of(thread));
+	cleanup_fd int fd = mount_root_open_hidden(name, O_RDONLY);
 	ssize_t n = fd < 0 ? -1 : read(fd, text, sizeof text - 1);
 	if (n < 0)
 		return -errno;
@@ -53,19 +55,15 @@ int mounting_root(pid_t thread, char *out, size_t size)
 
 /* ---------------------------------------------------------------- a mount of cgroup2 */
 
-/* A copy of the mount, starting at the root of the caller's namespace: a descriptor or -errno. */
-static int copy_of_mount(pid_t thread, bool read_only)
+int mounting_copy(const char *group, unsigned attributes)
 {
-	char group[PATH_MAX_SAID];
-	struct mount_attr attributes = { .attr_set = MOUNT_ATTR_RDONLY };
-	int fault = mounting_root(thread, group, sizeof group);
-	if (fault)
-		return fault;
-	cleanup_fd int root = groups_open(group, O_PATH | O_DIRECTORY);
+	bool has_times = attributes & MOUNT_ATTR__ATIME;
+	struct mount_attr how = { .attr_set = attributes, .attr_clr = has_times ? MOUNT_ATTR__ATIME : 0 };
+	cleanup_fd int root = mount_root_open(group, O_PATH | O_DIRECTORY);
 	cleanup_fd int tree = root < 0
 		? -1
 		: (int)syscall(SYS_open_tree, root, "", OPEN_TREE_CLONE | OPEN_TREE_CLOEXEC | AT_EMPTY_PATH);
-	if (tree < 0 || (read_only && syscall(SYS_mount_setattr, tree, "", AT_EMPTY_PATH, &attributes, sizeof attributes)))
+	if (tree < 0 || (attributes && syscall(SYS_mount_setattr, tree, "", AT_EMPTY_PATH, &how, sizeof how)))
 		return -errno;
 	return steal_fd(&tree);
 }
@@ -79,6 +77,11 @@ static int bind_there(const void *argument)
 	const struct bind *b = argument;
 	const unsigned how = MOVE_MOUNT_F_EMPTY_PATH | MOVE_MOUNT_T_EMPTY_PATH;
 	return syscall(SYS_move_mount, b->tree, "", b->target, "", how) ? errno : 0;
+}
+
+int mounting_attach(pid_t thread, int tree, int target)
+{
+	return stand_in_call(thread, bind_there, &(struct bind){ tree, target });
 }
 
 static bool is_there(int listener, const struct seccomp_notif *call)
@@ -95,7 +98,7 @@ static int look_there(const void *path)
 /* The place of a mount, or -errno. Why there is none, the kernel says where the thread is. */
 static int find_target(pid_t thread, const char *path)
 {
-	int target = opening_find(thread, AT_FDCWD, path, true, 0);
+	int target = path_lookup_find(thread, AT_FDCWD, path, true, 0, NULL);
 	if (target >= 0 || errno == ENOMEM)
 		return target >= 0 ? target : -ENOMEM;
 	int fault = stand_in_call(thread, look_there, path);
@@ -109,24 +112,36 @@ static int refuse_version_1(pid_t thread, const char *path)
 	return target < 0 ? -target : stand_in_may(thread, CAP_SYS_ADMIN) ? EBUSY : EPERM;
 }
 
+/* Whether cgroup2 may be mounted there: 0 or an errno. The kernel has one file system for all groups, and mounts none at the root of a
+   mount of the same. */
+static int may_cover(int target)
+{
+	struct statx st;
+	if (!describe(target, STATX_TYPE, &st))
+		return ENOTDIR;
+	if (st.stx_attributes & STATX_ATTR_MOUNT_ROOT && mount_root_has(target))
+		return EBUSY;
+	return S_ISDIR(st.stx_mode) ? 0 : ENOTDIR;
+}
+
 static int mount_groups(int listener, const struct seccomp_notif *call, const char *path)
 {
 	pid_t thread = (pid_t)call->pid;
-	struct statx st;
 	cleanup_fd int target = find_target(thread, path);
 	if (target < 0)
 		return -target;
 	if (!stand_in_may(thread, CAP_SYS_ADMIN))
 		return EPERM;
-	if (statx(target, "", AT_EMPTY_PATH | AT_STATX_DONT_SYNC | AT_NO_AUTOMOUNT, STATX_TYPE, &st) ||
-		!S_ISDIR(st.stx_mode))
-		return ENOTDIR;
-	cleanup_fd int tree = copy_of_mount(thread, call->data.args[3] & MS_RDONLY);
+	char group[PATH_MAX_SAID];
+	int fault = may_cover(target);
+	if (fault || (fault = -mounting_root(thread, group, sizeof group)))
+		return fault;
+	cleanup_fd int tree = mounting_copy(group, call->data.args[3] & MS_RDONLY ? MOUNT_ATTR_RDONLY : 0);
 	if (tree == -ENOMEM)
 		return ENOMEM;
 	if (tree < 0 || !is_there(listener, call))
 		return EPERM;
-	return stand_in_call(thread, bind_there, &(struct bind){ tree, target });
+	return mounting_attach(thread, tree, target);
 }
 
 /* ---------------------------------------------------------------- a mount of another file system */
@@ -144,7 +159,7 @@ struct wanted {
 static bool read_data(pid_t thread, unsigned long at, char data[PAGE])
 {
 	memset(data, 0, PAGE);
-	if (!memory_read(thread, at, data, PAGE) && !memory_read(thread, at, data, PAGE - at % PAGE))
+	if (!program_memory_read(thread, at, data, PAGE) && !program_memory_read(thread, at, data, PAGE - at % PAGE))
 		return false;
 	data[PAGE - 1] = 0;
 	return true;
@@ -160,8 +175,9 @@ static int read_wanted(const struct seccomp_notif *call, struct wanted *w)
 	w->target = w->device = w->device_as = -1;
 	if (!a[2])
 		return EINVAL;
-	if (!memory_text(thread, a[2], w->type, sizeof w->type) || !memory_text(thread, a[1], w->path, sizeof w->path) ||
-		(w->has_source && !memory_text(thread, a[0], w->source, sizeof w->source)) ||
+	if (!program_memory_text(thread, a[2], w->type, sizeof w->type) ||
+		!program_memory_text(thread, a[1], w->path, sizeof w->path) ||
+		(w->has_source && !program_memory_text(thread, a[0], w->source, sizeof w->source)) ||
 		(w->has_data && !read_data(thread, a[4], w->data)))
 		return EFAULT;
 	return 0;
@@ -177,7 +193,7 @@ static void take_device(pid_t thread, struct wanted *w)
 		at = (at = strchr(at, ',')) ? at + 1 : NULL;
 	if (!at)
 		return;
-	cleanup_fd int process = (int)syscall(SYS_pidfd_open, opening_process_of(thread), 0);
+	cleanup_fd int process = open_process(path_lookup_process_of(thread));
 	w->device_as = (int)strtol(at + 3, NULL, 10);
 	w->device = process < 0 ? -1 : (int)syscall(SYS_pidfd_getfd, process, w->device_as, 0);
 }
@@ -239,7 +255,7 @@ static int open_there(const void *argument)
 {
 	const struct opening *o = argument;
 	int fd = (int)syscall(SYS_fsopen, o->type, o->flags);
-	return fd >= 0 && passing_send(o->to, "", 1, &fd, 1) ? 0 : errno;
+	return fd >= 0 && descriptor_passing_send(o->to, "", 1, &fd, 1) ? 0 : errno;
 }
 
 /* The descriptor, or -errno. */
@@ -252,7 +268,7 @@ static int open_other(pid_t thread, struct opening *o)
 	cleanup_fd int from = ends[0], to = ends[1];
 	o->to = to;
 	int fault = stand_in_call(thread, open_there, o);
-	if (fault == 0 && !passing_take(from, &byte, 1, &fd, 1, MSG_DONTWAIT))
+	if (fault == 0 && !descriptor_passing_take(from, &byte, 1, &fd, 1, MSG_DONTWAIT))
 		fault = ENOMEM;
 	return fault ? -fault : fd;
 }
@@ -261,9 +277,10 @@ bool mounting_opens(int listener, const struct seccomp_notif *call, int *opened)
 {
 	struct opening o = { .flags = (unsigned)call->data.args[1] };
 	pid_t thread = (pid_t)call->pid;
-	bool is_read = memory_text(thread, call->data.args[0], o.type, sizeof o.type);
-	if (is_read && version_of(o.type))
-		*opened = -ENOSYS;
+	bool is_read = program_memory_text(thread, call->data.args[0], o.type, sizeof o.type);
+	int version = is_read ? version_of(o.type) : 0;
+	if (version)
+		*opened = version == 2 ? mount_contexts_open(call) : -ENOSYS;
 	else if (!may_mount_groups(thread))
 		return false;
 	else

@@ -13,6 +13,10 @@
 bool mounting_takes(int listener, const struct seccomp_notif *call, int *error);
 /* fsopen: true if the kernel must not look at it, and then the descriptor that it returns, or -errno. */
 bool mounting_opens(int listener, const struct seccomp_notif *call, int *opened);
+/* A copy of the hierarchy's mount with more attributes (MOUNT_ATTR_..), starting at this group: a descriptor or -errno. */
+int mounting_copy(const char *group, unsigned attributes);
+/* Mounts such a copy on a file or directory, as the thread may: 0 or an errno. */
+int mounting_attach(pid_t thread, int tree, int target);
 /* The root of a thread's cgroup namespace: 0 or -errno. */
 int mounting_root(pid_t thread, char *out, size_t size);
 

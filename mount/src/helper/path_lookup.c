@@ -1,26 +1,22 @@
-#include "opening.h"
-#include "cleanup.h"
-#include "roots.h"
-#include "status.h"
+#include "helper/path_lookup.h"
+#include "channels/roots.h"
+#include "common/cleanup.h"
+#include "common/kernel.h"
+#include "common/proc_status.h"
+#include "helper/proc_numbers.h"
 #include <fcntl.h>
 #include <limits.h>
-#include <linux/magic.h>
 #include <linux/openat2.h>
 #include <stdint.h>
 #include <string.h>
 #include <sys/stat.h>
 #include <sys/syscall.h>
-#include <sys/vfs.h>
 
-#ifndef PIDFD_THREAD
-#define PIDFD_THREAD O_EXCL /* Linux 6.9 */
-#endif
-
-enum { LINKS = 40, PROC_ROOT = 1 };
+enum { LINKS = 40 }; /* as many as the kernel follows */
 
 /* ---------------------------------------------------------------- process numbers */
 
-bool opening_same_numbers(pid_t a, pid_t b)
+bool path_lookup_same_numbers(pid_t a, pid_t b)
 {
 	char path[40];
 	struct stat one, other;
@@ -31,42 +27,42 @@ bool opening_same_numbers(pid_t a, pid_t b)
 	return stat(path, &other) == 0 && one.st_ino == other.st_ino && one.st_dev == other.st_dev;
 }
 
-pid_t opening_process_of(pid_t thread)
+pid_t path_lookup_process_of(pid_t thread)
 {
-	return (pid_t)status_number(thread, "Tgid:");
+	return (pid_t)proc_status_number(thread, "Tgid:");
 }
 
 /* The caller is the helper. Its parent is the supervisor, which traces its other children, except those of makhloeum. In
    another PID namespace none of these has a number. */
-bool opening_is_own(pid_t thread, pid_t number)
+bool path_lookup_is_own(pid_t thread, pid_t number)
 {
-	if (!opening_same_numbers(thread, getpid()))
+	if (!path_lookup_same_numbers(thread, getpid()))
 		return false;
-	return opening_process_of(number) == getppid() ||
-		(status_number(number, "PPid:") == getppid() && status_number(number, "TracerPid:") == 0);
+	return path_lookup_process_of(number) == getppid() ||
+		(proc_status_number(number, "PPid:") == getppid() && proc_status_number(number, "TracerPid:") == 0);
 }
 
-pid_t opening_seen_from(pid_t thread, pid_t number)
+pid_t path_lookup_seen_from(pid_t thread, pid_t number)
 {
 	struct dirent *entry;
-	if (opening_same_numbers(thread, getpid()))
-		return opening_process_of(number);
+	if (path_lookup_same_numbers(thread, getpid()))
+		return path_lookup_process_of(number);
 	cleanup_directory DIR *all = opendir(".");
 	if (!all)
 		return -errno;
 	while ((entry = readdir(all))) {
 		pid_t pid = (pid_t)strtol(entry->d_name, NULL, 10);
-		if (pid > 0 && status_number(pid, "NStgid:") == number && opening_same_numbers(pid, thread))
+		if (pid > 0 && proc_status_number(pid, "NStgid:") == number && path_lookup_same_numbers(pid, thread))
 			return pid;
 	}
 	return -1;
 }
 
-pid_t opening_thread_seen_from(pid_t thread, pid_t process, pid_t number)
+pid_t path_lookup_thread_seen_from(pid_t thread, pid_t process, pid_t number)
 {
 	char path[40];
 	struct dirent *entry;
-	if (opening_same_numbers(thread, getpid()))
+	if (path_lookup_same_numbers(thread, getpid()))
 		return number;
 	snprintf(path, sizeof path, "%d/task", process);
 	cleanup_directory DIR *all = opendir(path);
@@ -74,7 +70,7 @@ pid_t opening_thread_seen_from(pid_t thread, pid_t process, pid_t number)
 		return -errno;
 	while ((entry = readdir(all))) {
 		pid_t id = (pid_t)strtol(entry->d_name, NULL, 10);
-		if (id > 0 && status_number(id, "NSpid:") == number)
+		if (id > 0 && proc_status_number(id, "NSpid:") == number)
 			return id;
 	}
 	return -1;
@@ -82,10 +78,11 @@ pid_t opening_thread_seen_from(pid_t thread, pid_t process, pid_t number)
 
 /* ---------------------------------------------------------------- one step of a path */
 
-/* How far a walk has come. `rest` is what is left of the path; `resolve`: the rules of openat2 by which it goes. */
+/* How far a walk has come. `rest` is what is left of the path; `resolve`: the rules of openat2 by which it goes; `before`: where it was
+   before its last step, or -1. */
 struct walk {
 	pid_t thread;
-	int root, at;
+	int root, at, before;
 	int links;
 	bool to_directory; /* a slash follows the last name */
 	uint64_t resolve;
@@ -99,63 +96,67 @@ static int open_of(pid_t thread, const char *what)
 	return open(path, O_PATH | O_CLOEXEC);
 }
 
-int opening_of_descriptor(pid_t thread, int fd)
+/* Only the superuser may open the directory of descriptors of a process that is not dumpable, but a process that may trace
+   it may get one. */
+static int take_of(pid_t process, pid_t thread, int fd)
+{
+	cleanup_fd int of_thread = thread ? open_thread(thread) : -1;
+	/* before Linux 6.9 only of the process, whose threads have the same ones as a rule */
+	cleanup_fd int of = of_thread >= 0 ? steal_fd(&of_thread) : open_process(process);
+	return of < 0 ? -1 : (int)syscall(SYS_pidfd_getfd, of, fd, 0);
+}
+
+int path_lookup_take(pid_t thread, int fd)
+{
+	return take_of(path_lookup_process_of(thread), thread, fd);
+}
+
+int path_lookup_of_descriptor(pid_t thread, int fd)
 {
 	char what[32];
 	snprintf(what, sizeof what, "fd/%d", fd);
-	return open_of(thread, what);
+	int found = open_of(thread, what);
+	if (found >= 0 || errno != EACCES)
+		return found;
+	cleanup_fd int taken = path_lookup_take(thread, fd);
+	snprintf(what, sizeof what, "self/fd/%d", taken);
+	return taken < 0 ? -1 : open(what, O_PATH | O_CLOEXEC);
 }
 
 static bool are_same(const struct statx *one, const struct statx *other)
 {
-	return one->stx_ino == other->stx_ino && one->stx_mnt_id == other->stx_mnt_id &&
-		one->stx_dev_minor == other->stx_dev_minor && one->stx_dev_major == other->stx_dev_major;
+	return one->stx_ino == other->stx_ino && one->stx_mnt_id == other->stx_mnt_id && is_same_device(one, other);
 }
 
 static bool is_same(int a, int b)
 {
 	struct statx one, other;
-	int how = AT_EMPTY_PATH | AT_STATX_DONT_SYNC | AT_NO_AUTOMOUNT;
-	return statx(a, "", how, STATX_INO | STATX_MNT_ID, &one) == 0 &&
-		statx(b, "", how, STATX_INO | STATX_MNT_ID, &other) == 0 && are_same(&one, &other);
+	return describe(a, STATX_INO | STATX_MNT_ID, &one) && describe(b, STATX_INO | STATX_MNT_ID, &other) &&
+		are_same(&one, &other);
 }
 
 static bool is_same_mount(int a, int b)
 {
 	struct statx one, other;
-	int how = AT_EMPTY_PATH | AT_STATX_DONT_SYNC | AT_NO_AUTOMOUNT;
-	return statx(a, "", how, STATX_MNT_ID, &one) == 0 && statx(b, "", how, STATX_MNT_ID, &other) == 0 &&
-		one.stx_mnt_id == other.stx_mnt_id;
+	return describe(a, STATX_MNT_ID, &one) && describe(b, STATX_MNT_ID, &other) && one.stx_mnt_id == other.stx_mnt_id;
 }
 
 static bool is_link(int fd)
 {
 	struct statx st;
-	return statx(fd, "", AT_EMPTY_PATH | AT_STATX_DONT_SYNC, STATX_TYPE, &st) == 0 && S_ISLNK(st.stx_mode);
+	return describe(fd, STATX_TYPE, &st) && S_ISLNK(st.stx_mode);
 }
 
 static bool is_directory(int fd)
 {
 	struct statx st;
-	return statx(fd, "", AT_EMPTY_PATH | AT_STATX_DONT_SYNC, STATX_TYPE, &st) == 0 && S_ISDIR(st.stx_mode);
-}
-
-static bool is_proc(int fd)
-{
-	struct statfs st;
-	return fstatfs(fd, &st) == 0 && st.f_type == PROC_SUPER_MAGIC;
-}
-
-static bool is_proc_root(int fd)
-{
-	struct statx st;
-	return is_proc(fd) && statx(fd, "", AT_EMPTY_PATH | AT_STATX_DONT_SYNC, STATX_INO, &st) == 0 &&
-		st.stx_ino == PROC_ROOT;
+	return describe(fd, STATX_TYPE, &st) && S_ISDIR(st.stx_mode);
 }
 
 static void go(struct walk *w, int to)
 {
-	close(w->at);
+	close_at(&w->before);
+	w->before = w->at;
 	w->at = to;
 }
 
@@ -177,22 +178,15 @@ static bool go_on_with(struct walk *w, const char *text)
 	return root >= 0;
 }
 
-/* A process in a container that has not mounted its own /proc yet sees this one, with the numbers that are used here. */
-static bool is_own_proc(int fd)
-{
-	struct statx st, own;
-	return statx(fd, "", AT_EMPTY_PATH | AT_STATX_DONT_SYNC, STATX_INO, &st) == 0 &&
-		statx(AT_FDCWD, ".", AT_STATX_DONT_SYNC, STATX_INO, &own) == 0 && st.stx_dev_major == own.stx_dev_major &&
-		st.stx_dev_minor == own.stx_dev_minor;
-}
-
 /* /proc/self and /proc/thread-self mean the thread as it is numbered where that /proc was mounted. */
 static bool follow_self(struct walk *w, const char *name)
 {
 	char text[64];
-	bool same = is_own_proc(w->at) || opening_same_numbers(w->thread, getpid());
-	pid_t process = (pid_t)status_number(w->thread, same ? "Tgid:" : "NStgid:");
-	pid_t thread = same ? w->thread : (pid_t)status_number(w->thread, "NSpid:");
+	struct proc_numbers numbers = proc_numbers_of(w->thread, w->at, w->at);
+	pid_t process = proc_numbers_self(&numbers, false), thread = proc_numbers_self(&numbers, true);
+	proc_numbers_close(&numbers);
+	if (process <= 0 || thread <= 0)
+		return false;
 	if (strcmp(name, "self") == 0)
 		snprintf(text, sizeof text, "%d", process);
 	else
@@ -200,8 +194,7 @@ static bool follow_self(struct walk *w, const char *name)
 	return go_on_with(w, text);
 }
 
-/* Only the superuser may open the directory of descriptors of a process that is not dumpable, but a process that may trace
-   it may get one. */
+/* A descriptor of a process that is not dumpable. */
 static int take_descriptor(int directory, const char *name)
 {
 	char link[40], path[64], number[16];
@@ -212,12 +205,9 @@ static int take_descriptor(int directory, const char *name)
 	path[n < 0 ? 0 : n] = 0;
 	if (sscanf(path, "/proc/%d/task/%d/fd%n", &process, &thread, &end) != 2)
 		sscanf(path, "/proc/%d/fd%n", &process, &end);
-	if (!is_own_proc(directory) || !end || path[end] || fd < 0 || strcmp(name, number) != 0)
+	if (!proc_numbers_is_own(directory) || !end || path[end] || fd < 0 || strcmp(name, number) != 0)
 		return -1;
-	cleanup_fd int of_thread = thread ? (int)syscall(SYS_pidfd_open, thread, PIDFD_THREAD) : -1;
-	/* before Linux 6.9 only of the process, whose threads have the same ones as a rule */
-	cleanup_fd int of = of_thread >= 0 ? steal_fd(&of_thread) : (int)syscall(SYS_pidfd_open, process, 0);
-	return of < 0 ? -1 : (int)syscall(SYS_pidfd_getfd, of, fd, 0);
+	return take_of(process, thread, fd);
 }
 
 static bool follow(struct walk *w, int link, const char *name)
@@ -225,8 +215,8 @@ static bool follow(struct walk *w, int link, const char *name)
 	char text[PATH_MAX];
 	if (++w->links > LINKS || w->resolve & RESOLVE_NO_SYMLINKS)
 		return false;
-	if (is_proc(link)) {
-		bool at_root = is_proc_root(w->at);
+	if (proc_numbers_is_proc(link)) {
+		bool at_root = proc_numbers_is_root(w->at);
 		if (at_root && (strcmp(name, "self") == 0 || strcmp(name, "thread-self") == 0))
 			return follow_self(w, name);
 		if (!at_root) { /* not a text but a file: a descriptor, a directory, a program */
@@ -261,6 +251,7 @@ static bool take_name(struct walk *w, char name[NAME_MAX + 1], bool *is_last)
 	return true;
 }
 
+/* The kernel follows no link here: it would begin a link's absolute path at the root of this process, not of the program. */
 static bool step(struct walk *w, const char *name, bool follows)
 {
 	bool is_up = strcmp(name, "..") == 0;
@@ -269,7 +260,7 @@ static bool step(struct walk *w, const char *name, bool follows)
 	if (strcmp(name, ".") == 0 || (is_up && is_same(w->at, w->root)))
 		return is_directory(w->at);
 	cleanup_fd int next = openat(w->at, name, O_PATH | O_NOFOLLOW | O_CLOEXEC);
-	bool denied = next < 0 && errno == EACCES && follows && w->resolve == 0 && is_proc(w->at);
+	bool denied = next < 0 && errno == EACCES && follows && w->resolve == 0 && proc_numbers_is_proc(w->at);
 	if (denied)
 		next = take_descriptor(w->at, name);
 	if (next < 0)
@@ -282,17 +273,20 @@ static bool step(struct walk *w, const char *name, bool follows)
 	return true;
 }
 
-static int walk_by_hand(pid_t thread, int root, int from, const char *path, bool follows, uint64_t resolve)
+static int walk_by_hand(pid_t thread, int root, int from, const char *path, bool follows, uint64_t resolve, int *before)
 {
 	char name[NAME_MAX + 1];
 	bool is_last;
-	struct walk w = { .thread = thread, .root = root, .at = from, .resolve = resolve };
+	struct walk w = { .thread = thread, .root = root, .at = from, .before = -1, .resolve = resolve };
 	bool found = snprintf(w.rest, sizeof w.rest, "%s", path) < (int)sizeof w.rest;
 	while (found && take_name(&w, name, &is_last))
 		found = step(&w, name, follows || !is_last);
-	if (found && w.rest[strspn(w.rest, "/")] == 0 && (!w.to_directory || is_directory(w.at)))
-		return w.at;
-	close_at(&w.at);
+	cleanup_fd int above = w.before, at = w.at;
+	if (found && w.rest[strspn(w.rest, "/")] == 0 && (!w.to_directory || is_directory(w.at))) {
+		if (before)
+			*before = steal_fd(&above);
+		return steal_fd(&at);
+	}
 	return -1;
 }
 
@@ -303,7 +297,7 @@ static int open_start(pid_t thread, int root, int directory, const char *path, u
 {
 	if (path[0] == '/' && !(resolve & RESOLVE_IN_ROOT))
 		return resolve & RESOLVE_BENEATH ? -1 : fcntl(root, F_DUPFD_CLOEXEC, 0);
-	return directory == AT_FDCWD ? open_of(thread, "cwd") : opening_of_descriptor(thread, directory);
+	return directory == AT_FDCWD ? open_of(thread, "cwd") : path_lookup_of_descriptor(thread, directory);
 }
 
 /* ---------------------------------------------------------------- a path that crosses no mount */
@@ -323,19 +317,18 @@ static bool has_own_root(pid_t thread)
 		are_same(&is, &own_root.is);
 }
 
-void opening_begin(pid_t program)
+void path_lookup_begin(pid_t program)
 {
-	int how = AT_EMPTY_PATH | AT_STATX_DONT_SYNC | AT_NO_AUTOMOUNT;
 	own_root.fd = open("/", O_PATH | O_CLOEXEC);
 	if (own_root.fd >= 0 &&
-		(is_proc(own_root.fd) || statx(own_root.fd, "", how, STATX_INO | STATX_MNT_ID, &own_root.is)))
+		(proc_numbers_is_proc(own_root.fd) || !describe(own_root.fd, STATX_INO | STATX_MNT_ID, &own_root.is)))
 		close_at(&own_root.fd);
 	own_root.is_programs = has_own_root(program);
 }
 
 /* The number of the root's mount is that of no other, since the mount stays open. A relative path follows no links, since their
    root is not known. */
-bool opening_stays_outside_proc(pid_t thread, int directory, const char *path, bool follows)
+bool path_lookup_stays_outside_proc(pid_t thread, int directory, const char *path, bool follows)
 {
 	bool is_absolute = path[0] == '/';
 	struct open_how how = { .flags = (uint64_t)(O_PATH | O_CLOEXEC | (follows ? 0 : O_NOFOLLOW)),
@@ -345,7 +338,7 @@ bool opening_stays_outside_proc(pid_t thread, int directory, const char *path, b
 	if (!(own_root.is_programs && !roots_have_changed()) && !has_own_root(thread))
 		return false;
 	cleanup_fd int from = is_absolute ? -1 : open_start(thread, -1, directory, path, 0);
-	if (!is_absolute && (from < 0 || is_proc(from)))
+	if (!is_absolute && (from < 0 || proc_numbers_is_proc(from)))
 		return false;
 	cleanup_fd int found = (int)syscall(SYS_openat2, is_absolute ? own_root.fd : from, path, &how, sizeof how);
 	return found >= 0 || errno == ENOENT;
@@ -354,8 +347,10 @@ bool opening_stays_outside_proc(pid_t thread, int directory, const char *path, b
 /* If the thread has the root of this process, the kernel finds the file directly. The exceptions are files of /proc, where
    it depends on who asks, and files that this process does not see. A walk by other rules than the usual ones that does not
    succeed here is the kernel's to refuse. */
-int opening_find(pid_t thread, int directory, const char *path, bool follows, uint64_t resolve)
+int path_lookup_find(pid_t thread, int directory, const char *path, bool follows, uint64_t resolve, int *before)
 {
+	if (before)
+		*before = -1;
 	errno = 0;
 	cleanup_fd int root = open_of(thread, "root");
 	cleanup_fd int own = open("/", O_PATH | O_CLOEXEC);
@@ -373,8 +368,8 @@ int opening_find(pid_t thread, int directory, const char *path, bool follows, ui
 		struct open_how how = { .flags = (uint64_t)(O_PATH | O_CLOEXEC | (follows ? 0 : O_NOFOLLOW)),
 			.resolve = RESOLVE_NO_MAGICLINKS };
 		cleanup_fd int found = (int)syscall(SYS_openat2, from, path, &how, sizeof how);
-		if (found >= 0 && !is_proc(found) && !is_proc(from))
+		if (found >= 0 && !proc_numbers_is_proc(found) && !proc_numbers_is_proc(from))
 			return steal_fd(&found);
 	}
-	return walk_by_hand(thread, root, steal_fd(&from), path, follows, resolve);
+	return walk_by_hand(thread, root, steal_fd(&from), path, follows, resolve, before);
 }

@@ -1,14 +1,13 @@
-#include "procfiles.h"
-#include "cleanup.h"
-#include "controllers.h"
-#include "groups.h"
-#include "mounting.h"
-#include "opening.h"
-#include "passing.h"
-#include "place.h"
-#include "space.h"
-#include "spaces.h"
-#include "tables.h"
+#include "helper/procfiles.h"
+#include "channels/descriptor_passing.h"
+#include "channels/table_channel.h"
+#include "common/cleanup.h"
+#include "common/group_paths.h"
+#include "common/namespaces.h"
+#include "helper/mount_root.h"
+#include "helper/mounting.h"
+#include "helper/proc_numbers.h"
+#include "values/controllers.h"
 #include <fcntl.h>
 #include <linux/magic.h>
 #include <stdbool.h>
@@ -47,8 +46,8 @@ static int end_text(int fd, FILE *out)
 static int cgroup_text(pid_t reader, pid_t pid)
 {
 	char name[48];
-	snprintf(name, sizeof name, "/.makhloeum.%d.%u", pid, spaces_of(reader));
-	int fd = groups_open(name, O_RDONLY);
+	snprintf(name, sizeof name, "/.makhloeum.%d.%u", pid, namespaces_cgroup_of(reader));
+	int fd = mount_root_open_hidden(name, O_RDONLY);
 	return fd < 0 ? -errno : fd;
 }
 
@@ -56,16 +55,17 @@ static int cgroup_text(pid_t reader, pid_t pid)
 static int mounts_text(pid_t reader, pid_t pid, const char *what)
 {
 	char path[48];
-	struct given_table given = { .number = tables_number(), .space = spaces_of(reader) };
+	struct given_table given = { .number = table_channel_number(), .space = namespaces_cgroup_of(reader) };
 	snprintf(given.what, sizeof given.what, "%s", what);
 	snprintf(path, sizeof path, "%d/%s", pid, what);
 	cleanup_fd int table = open(path, O_RDONLY | O_CLOEXEC), bell = open(path, O_RDONLY | O_CLOEXEC);
 	if (table < 0 || bell < 0)
 		return errno == ENOMEM ? -ENOMEM : -1; /* cppcheck-suppress resourceLeak ; the cleanup attribute closes them */
-	if (!passing_send(tables_socket(), &given, sizeof given, (int[]){ table, bell }, 2))
+	/* before the open, at which the server takes all that was sent. So if the socket is full, opens of other threads soon empty it */
+	if (!descriptor_passing_send(table_channel_socket(), &given, sizeof given, (int[]){ table, bell }, 2))
 		return -errno;
 	snprintf(path, sizeof path, "/.makhloeum.t.%ld", given.number);
-	int fd = groups_open(path, O_RDONLY);
+	int fd = mount_root_open_hidden(path, O_RDONLY);
 	return fd >= 0        ? fd
 		: errno == ENOENT ? -ENFILE
 						  : -errno; /* the server had no room for this one, or for very many */
@@ -81,31 +81,32 @@ static int constant_text(const char *name, const char *text)
 	return end_text(fd, out);
 }
 
-/* /proc/cgroups: the controllers that this run has, in the kernel's order and by its names of version 1. */
+/* /proc/cgroups: all controllers that a kernel can have, in its order and by its names of version 1. Those that this run has are
+   enabled. What cpuacct counts is in cpu.stat. Programs that look for it take a machine without it for one without groups. */
 static int controllers_text(void)
 {
 	static const struct {
 		unsigned which;
 		const char *name;
-	} all[] = { { HAS_CPUSET, "cpuset" }, { HAS_CPU, "cpu" }, { HAS_IO, "blkio" }, { HAS_MEMORY, "memory" },
-		{ HAS_PIDS, "pids" } };
+	} all[] = { { HAS_CPUSET, "cpuset" }, { HAS_CPU, "cpu" }, { HAS_CPU, "cpuacct" }, { HAS_IO, "blkio" },
+		{ HAS_MEMORY, "memory" }, { 0, "devices" }, { 0, "freezer" }, { 0, "net_cls" }, { 0, "perf_event" },
+		{ 0, "net_prio" }, { 0, "hugetlb" }, { HAS_PIDS, "pids" }, { 0, "rdma" }, { 0, "misc" } };
 	FILE *out;
 	int fd = new_text("cgroups", &out);
 	if (fd < 0)
 		return fd;
 	fputs("#subsys_name\thierarchy\tnum_cgroups\tenabled\n", out);
 	for (size_t i = 0; i < sizeof all / sizeof *all; i++)
-		if (all[i].which & (controllers_kept() | HAS_PIDS))
-			fprintf(out, "%s\t0\t1\t1\n", all[i].name);
+		fprintf(out, "%s\t0\t1\t%d\n", all[i].name, (all[i].which & (controllers_kept() | HAS_PIDS)) != 0);
 	return end_text(fd, out);
 }
 
 /* ---------------------------------------------------------------- the cpuset of a process */
 
 /* A short file of the mount without its last line feed. */
-static bool read_short(const char *path, char *out, size_t size)
+static bool read_short(int file, char *out, size_t size)
 {
-	cleanup_fd int fd = groups_open(path, O_RDONLY);
+	cleanup_fd int fd = file;
 	ssize_t n = fd < 0 ? -1 : read(fd, out, size - 1);
 	out[n > 0 ? n - 1 : 0] = 0;
 	return n > 0;
@@ -116,12 +117,12 @@ static bool find_cpuset(pid_t pid, char group[PATH_MAX_SAID])
 {
 	char path[PATH_MAX_SAID + 32], text[PATH_MAX_SAID + 8];
 	snprintf(path, sizeof path, "/.makhloeum.%d.0", pid);
-	if (!read_short(path, text, sizeof text) || strncmp(text, "0::", 3) != 0)
+	if (!read_short(mount_root_open_hidden(path, O_RDONLY), text, sizeof text) || strncmp(text, "0::", 3) != 0)
 		return false;
 	snprintf(group, PATH_MAX_SAID, "%.*s", PATH_MAX_SAID - 1, text + 3);
 	for (; !is_root(group); go_up(group)) {
 		snprintf(path, sizeof path, "%s/cgroup.controllers", group);
-		if (read_short(path, text, sizeof text) && strncmp(text, "cpuset", 6) == 0)
+		if (read_short(mount_root_open(path, O_RDONLY), text, sizeof text) && strncmp(text, "cpuset", 6) == 0)
 			break;
 	}
 	return true;
@@ -158,7 +159,31 @@ static bool is_number(const char *name)
 	return *name && name[strspn(name, "0123456789")] == 0;
 }
 
-int procfiles_text(pid_t thread, int file)
+/* The text of the file `what` of a process, or of one of its threads, as the asker sees it. */
+static int text_of(const struct proc_numbers *numbers, const char *what, pid_t process, pid_t thread)
+{
+	pid_t pid = proc_numbers_process(numbers, process);
+	if (pid <= 0)
+		return pid ? pid : -1;
+	if (strcmp(what, "cgroup") == 0)
+		return cgroup_text(numbers->asker, pid);
+	if (strcmp(what, "cpuset") == 0)
+		return cpuset_text(numbers->asker, pid);
+	/* a thread may be in another mount namespace than its process */
+	pid_t id = thread ? proc_numbers_thread(numbers, pid, thread) : pid;
+	return id > 0 ? mounts_text(numbers->asker, id, what) : id;
+}
+
+static bool is_text(const char *what)
+{
+	static const char *const all[] = { "cgroup", "cpuset", "mounts", "mountinfo", "mountstats" };
+	size_t i = 0;
+	while (i < sizeof all / sizeof *all && strcmp(what, all[i]) != 0)
+		i++;
+	return i < sizeof all / sizeof *all;
+}
+
+int procfiles_text(pid_t thread, int file, int from)
 {
 	char link[40], path[LONG];
 	struct statfs st;
@@ -174,16 +199,10 @@ int procfiles_text(pid_t thread, int file)
 	const char *process = is_thread ? cut_name(path) : who;
 	if (!is_number(who) || !is_number(process))
 		return strcmp(what, "cgroups") == 0 ? controllers_text() : -1;
-	bool is_group = strcmp(what, "cgroup") == 0, is_cpuset = strcmp(what, "cpuset") == 0;
-	if (!is_group && !is_cpuset && strcmp(what, "mounts") != 0 && strcmp(what, "mountinfo") != 0 &&
-		strcmp(what, "mountstats") != 0)
+	if (!is_text(what))
 		return -1;
-	pid_t pid = opening_seen_from(thread, (pid_t)strtol(process, NULL, 10));
-	if (pid <= 0)
-		return pid ? pid : -1;
-	if (is_group || is_cpuset)
-		return is_group ? cgroup_text(thread, pid) : cpuset_text(thread, pid);
-	/* a thread may be in another mount namespace than its process */
-	pid_t id = is_thread ? opening_thread_seen_from(thread, pid, (pid_t)strtol(who, NULL, 10)) : pid;
-	return id > 0 ? mounts_text(thread, id, what) : id;
+	struct proc_numbers numbers = proc_numbers_of(thread, file, from);
+	int text = text_of(&numbers, what, (pid_t)strtol(process, NULL, 10), is_thread ? (pid_t)strtol(who, NULL, 10) : 0);
+	proc_numbers_close(&numbers);
+	return text;
 }

@@ -1,7 +1,7 @@
-#include "stand_in.h"
-#include "cleanup.h"
-#include "own.h"
-#include "status.h"
+#include "helper/stand_in.h"
+#include "common/cleanup.h"
+#include "common/own_processes.h"
+#include "common/proc_status.h"
 #include <fcntl.h>
 #include <linux/capability.h>
 #include <sched.h>
@@ -46,7 +46,7 @@ bool stand_in_is_own(int space, const char *which)
 static unsigned long long capabilities_of(pid_t thread, const char *which)
 {
 	char line[64];
-	return status_line(thread, which, line, sizeof line) ? strtoull(line, NULL, 16) : 0;
+	return proc_status_line(thread, which, line, sizeof line) ? strtoull(line, NULL, 16) : 0;
 }
 
 bool stand_in_may(pid_t thread, int capability)
@@ -85,8 +85,8 @@ static bool look_at(pid_t thread, struct place *p)
 	}
 	p->root = open_of(thread, "root");
 	p->directory = open_of(thread, "cwd");
-	p->user = status_number(thread, "Uid:"); /* the last of the line */
-	p->group = status_number(thread, "Gid:");
+	p->user = proc_status_number(thread, "Uid:"); /* the last of the line */
+	p->group = proc_status_number(thread, "Gid:");
 	unsigned long long effective = capabilities_of(thread, "CapEff:"), permitted = capabilities_of(thread, "CapPrm:");
 	for (int i = 0; i < _LINUX_CAPABILITY_U32S_3; i++) {
 		p->capabilities[i].effective = (__u32)(effective >> 32 * i);
@@ -134,7 +134,7 @@ static int call_from(const struct place *p, int (*call)(const void *argument), c
 		return fault ? fault : call(argument);
 	pid_t pid = fork();
 	if (pid == 0)
-		_exit(own_dies_with(0) ? call(argument) : EIO);
+		_exit(own_processes_die_with(0) ? call(argument) : EIO);
 	return pid < 0 ? errno : end_of(pid);
 }
 
@@ -148,7 +148,7 @@ int stand_in_call(pid_t thread, int (*call)(const void *argument), const void *a
 	/* only a process without other threads can enter a namespace */
 	pid_t self = getpid(), pid = fork();
 	if (pid == 0)
-		_exit(own_dies_with(self) ? call_from(&p, call, argument) : EIO);
+		_exit(own_processes_die_with(self) ? call_from(&p, call, argument) : EIO);
 	int fault = pid < 0 ? errno : end_of(pid);
 	forget(&p);
 	return fault;

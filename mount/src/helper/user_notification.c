@@ -1,13 +1,16 @@
-#include "notified.h"
-#include "cleanup.h"
-#include "groups.h"
-#include "memory.h"
-#include "mounting.h"
-#include "opening.h"
-#include "procfiles.h"
-#include "serve.h"
+#include "helper/user_notification.h"
+#include "common/cleanup.h"
+#include "common/message.h"
+#include "helper/mount_contexts.h"
+#include "helper/mount_root.h"
+#include "helper/mounting.h"
+#include "helper/path_lookup.h"
+#include "helper/procfiles.h"
+#include "helper/program_memory.h"
+#include "helper/stand_in.h"
 #include <fcntl.h>
 #include <limits.h>
+#include <linux/capability.h>
 #include <linux/magic.h>
 #include <linux/mount.h>
 #include <linux/openat2.h>
@@ -36,7 +39,7 @@ static void wake_here(int listener, bool here)
 
 /* Who waits for a call wakes up on the processor of the caller, which waits from then on, so no idle one has to be woken. The
    caller wakes up on whichever is idle: on this one it could wait for another program, while others have nothing to do. */
-bool notified_next(int listener, struct seccomp_notif *call)
+bool user_notification_next(int listener, struct seccomp_notif *call)
 {
 	for (;;) {
 		memset(call, 0, sizeof *call);
@@ -87,15 +90,19 @@ static bool answer_no_memory(int listener, const struct seccomp_notif *call)
 /* ---------------------------------------------------------------- statfs */
 
 /* The caller keeps its number until the call ends. Its memory is opened before that is checked, so the write reaches no
-   other process. The read may block, and then only this call waits. */
+   other process. That of a process that is not dumpable can't be opened: if it was killed since the check, and its number were another
+   one's already, that one would be written to. The write may block, and then only this call waits. */
 static bool write_answer(int listener, const struct seccomp_notif *call, unsigned long at, const void *bytes,
 	size_t size)
 {
 	char path[40];
 	snprintf(path, sizeof path, "%d/mem", (int)call->pid);
 	cleanup_fd int memory = open(path, O_RDWR | O_CLOEXEC);
-	return memory >= 0 && ioctl(listener, SECCOMP_IOCTL_NOTIF_ID_VALID, &call->id) == 0 &&
-		pwrite(memory, bytes, size, (off_t)at) == (ssize_t)size;
+	bool is_closed = memory < 0 && errno == EACCES;
+	if ((memory < 0 && !is_closed) || ioctl(listener, SECCOMP_IOCTL_NOTIF_ID_VALID, &call->id))
+		return false;
+	return is_closed ? program_memory_write((pid_t)call->pid, at, bytes, size)
+					 : pwrite(memory, bytes, size, (off_t)at) == (ssize_t)size;
 }
 
 /* True if the mount was asked for and the answer has been given. */
@@ -105,16 +112,19 @@ static bool answer_statfs(int listener, const struct seccomp_notif *call)
 	struct statfs st;
 	pid_t thread = (pid_t)call->pid;
 	bool by_path = call->data.nr == __NR_statfs;
-	if (by_path && !memory_text(thread, call->data.args[0], path, sizeof path))
+	if (by_path && !program_memory_text(thread, call->data.args[0], path, sizeof path))
 		return false;
-	cleanup_fd int file = by_path ? opening_find(thread, AT_FDCWD, path, true, 0)
-								  : opening_of_descriptor(thread, (int)call->data.args[0]);
-	if (file >= 0 && !groups_have(file))
+	cleanup_fd int file = by_path ? path_lookup_find(thread, AT_FDCWD, path, true, 0, NULL)
+								  : path_lookup_of_descriptor(thread, (int)call->data.args[0]);
+	if (file >= 0 && !mount_root_has(file))
 		return false;
-	if (file < 0 || fstatfs(file, &st))
+	bool is_text = mount_root_has_file(file, ".makhloeum.");
+	if (file < 0 || (is_text ? statfs(".", &st) : fstatfs(file, &st)))
 		return answer_no_memory(listener, call);
-	st.f_type = CGROUP2_SUPER_MAGIC;
-	st.f_ffree = 0;
+	if (!is_text) {
+		st.f_type = CGROUP2_SUPER_MAGIC;
+		st.f_ffree = 0;
+	}
 	respond(listener, call, write_answer(listener, call, call->data.args[1], &st, sizeof st) ? 0 : EFAULT, 0);
 	return true;
 }
@@ -137,13 +147,13 @@ static const uint64_t known_rules = RESOLVE_NO_XDEV | RESOLVE_NO_MAGICLINKS | RE
 static bool read_how(pid_t thread, unsigned long at, size_t size, struct open_how *how)
 {
 	char bytes[4096];
-	if (size < sizeof *how || size > sizeof bytes || !memory_read(thread, at, bytes, size))
+	if (size < sizeof *how || size > sizeof bytes || !program_memory_read(thread, at, bytes, size))
 		return false;
 	for (size_t i = sizeof *how; i < size; i++)
 		if (bytes[i])
 			return false;
 	memcpy(how, bytes, sizeof *how);
-	bool makes = how->flags & (O_CREAT | (O_TMPFILE & ~O_DIRECTORY));
+	bool makes = how->flags & O_CREAT; /* as O_TMPFILE does: the kernel answers every open with that (read_open) */
 	if (how->flags & ~known_flags || how->mode & ~(makes ? 07777ULL : 0ULL) || how->resolve & ~known_rules)
 		return false;
 	if (how->resolve & RESOLVE_CACHED && (makes || how->flags & O_TRUNC))
@@ -175,9 +185,10 @@ static bool read_open(const struct seccomp_notif *call, struct open_call *out)
 		out->flags = (int)how.flags;
 		out->resolve = how.resolve;
 	}
-	if (out->flags & (O_PATH | O_WRONLY | O_DIRECTORY) || (out->flags & O_CREAT && out->flags & O_EXCL))
+	/* O_TMPFILE is O_DIRECTORY and a bit that the kernel refuses alone */
+	if (out->flags & (O_PATH | O_WRONLY | O_TMPFILE) || (out->flags & O_CREAT && out->flags & O_EXCL))
 		return false;
-	return memory_text(thread, at, out->path, sizeof out->path);
+	return program_memory_text(thread, at, out->path, sizeof out->path);
 }
 
 static bool answer_open(int listener, const struct seccomp_notif *call)
@@ -187,12 +198,13 @@ static bool answer_open(int listener, const struct seccomp_notif *call)
 	if (!read_open(call, &asked))
 		return false;
 	bool follows = !(asked.flags & O_NOFOLLOW);
-	if (asked.resolve == 0 && opening_stays_outside_proc(thread, asked.directory, asked.path, follows))
+	if (asked.resolve == 0 && path_lookup_stays_outside_proc(thread, asked.directory, asked.path, follows))
 		return false;
-	cleanup_fd int file = opening_find(thread, asked.directory, asked.path, follows, asked.resolve);
+	cleanup_fd int from = -1;
+	cleanup_fd int file = path_lookup_find(thread, asked.directory, asked.path, follows, asked.resolve, &from);
 	if (file < 0)
 		return answer_no_memory(listener, call);
-	cleanup_fd int text = procfiles_text(thread, file);
+	cleanup_fd int text = procfiles_text(thread, file, from);
 	if (text == -1)
 		return false;
 	if (asked.resolve & RESOLVE_CACHED) { /* it is not known without a look-up */
@@ -203,7 +215,8 @@ static bool answer_open(int listener, const struct seccomp_notif *call)
 		respond(listener, call, -text, 0);
 		return true;
 	}
-	if (asked.flags & O_RDWR) { /* these files can only be read */
+	/* these files can only be read; a truncation, which has no effect, is a superuser's */
+	if (asked.flags & O_RDWR || (asked.flags & O_TRUNC && !stand_in_may(thread, CAP_DAC_OVERRIDE))) {
 		respond(listener, call, EACCES, 0);
 		return true;
 	}
@@ -226,17 +239,40 @@ static bool answer_mount(int listener, const struct seccomp_notif *call)
 	return answered;
 }
 
-/* A caller that knows only the new calls gets ENOSYS for cgroup2, as on an older kernel, and then uses mount. */
-static bool answer_fsopen(int listener, const struct seccomp_notif *call)
+static void respond_with_or_fail(int listener, const struct seccomp_notif *call, int fd, bool closes)
+{
+	if (fd >= 0)
+		respond_with(listener, call, fd, closes ? O_CLOEXEC : 0);
+	else
+		respond(listener, call, -fd, 0);
+}
+
+static bool answer_context(int listener, const struct seccomp_notif *call)
 {
 	cleanup_fd int opened = -1;
-	if (!mounting_opens(listener, call, &opened))
-		return false;
-	if (opened >= 0)
-		respond_with(listener, call, opened, call->data.args[1] & FSOPEN_CLOEXEC ? O_CLOEXEC : 0);
-	else
-		respond(listener, call, -opened, 0);
-	return true;
+	int error;
+	switch (call->data.nr) {
+	case __NR_fsopen:
+		if (!mounting_opens(listener, call, &opened))
+			return false;
+		respond_with_or_fail(listener, call, opened, call->data.args[1] & FSOPEN_CLOEXEC);
+		return true;
+	case __NR_fsmount:
+		if (!mount_contexts_mounts(call, &opened))
+			return false;
+		respond_with_or_fail(listener, call, opened, call->data.args[1] & FSMOUNT_CLOEXEC);
+		return true;
+	case __NR_fspick:
+		if (!mount_contexts_picks(call, &opened))
+			return false;
+		respond_with_or_fail(listener, call, opened, call->data.args[2] & FSPICK_CLOEXEC);
+		return true;
+	default:
+		if (!(call->data.nr == __NR_fsconfig ? mount_contexts_configures : mount_contexts_moves)(call, &error))
+			return false;
+		respond(listener, call, error, 0);
+		return true;
+	}
 }
 
 /* A process has one tracer, and here that is the supervisor. The kernel refuses these calls too, but does not say why. */
@@ -257,7 +293,7 @@ static bool answer_trace(int listener, const struct seccomp_notif *call)
 static bool limits_us(const struct seccomp_notif *call)
 {
 	return call->data.nr == __NR_prlimit64 && call->data.args[2] &&
-		opening_is_own((pid_t)call->pid, (pid_t)call->data.args[0]);
+		path_lookup_is_own((pid_t)call->pid, (pid_t)call->data.args[0]);
 }
 
 static bool answer_limit(int listener, const struct seccomp_notif *call)
@@ -277,7 +313,11 @@ static bool answer(int listener, const struct seccomp_notif *call)
 	case __NR_mount:
 		return answer_mount(listener, call);
 	case __NR_fsopen:
-		return answer_fsopen(listener, call);
+	case __NR_fsconfig:
+	case __NR_fsmount:
+	case __NR_fspick:
+	case __NR_move_mount:
+		return answer_context(listener, call);
 	case __NR_ptrace:
 		return answer_trace(listener, call);
 	case __NR_prlimit64:
@@ -287,13 +327,13 @@ static bool answer(int listener, const struct seccomp_notif *call)
 	}
 }
 
-void notified_answer(int listener, const struct seccomp_notif *call)
+void user_notification_answer(int listener, const struct seccomp_notif *call)
 {
 	if (!answer(listener, call))
 		let_through(listener, call);
 }
 
-void notified_let_through(int listener, const struct seccomp_notif *call)
+void user_notification_let_through(int listener, const struct seccomp_notif *call)
 {
 	if (call->data.nr == __NR_prlimit64)
 		respond(listener, call, EPERM, 0);

@@ -1,15 +1,17 @@
-#include "real.h"
-#include "cleanup.h"
-#include "engine.h"
-#include "listed.h"
-#include "own.h"
-#include "place.h"
-#include "reported.h"
-#include "reserved.h"
-#include "room.h"
-#include "status.h"
-#include "tasks.h"
-#include "watch.h"
+#include "processes/host_processes.h"
+#include "common/cleanup.h"
+#include "common/group_paths.h"
+#include "common/growing_array.h"
+#include "common/kernel.h"
+#include "common/own_processes.h"
+#include "common/proc_status.h"
+#include "engine/engine.h"
+#include "processes/members.h"
+#include "processes/process_table.h"
+#include "processes/reservations.h"
+#include "processes/run_processes.h"
+#include "processes/tasks.h"
+#include "server/watch.h"
 #include <dirent.h>
 #include <errno.h>
 #include <fcntl.h>
@@ -24,10 +26,6 @@
 
 enum { PROCESS_ONE = 1 };
 
-/* What is known of each number. A process that a kill in the hierarchy reached is dying: it may fork no more. One that is
-   disowned leaves the hierarchy at the next look. One that has ended is still listed as a child until its parent waits for it. */
-enum { UNKNOWN, LIVE, DYING, DISOWNED, ENDED };
-static unsigned char known[PIDS];
 static enum { NUMBERS, ADOPTED, REPORTED } way;
 
 static struct adopted {
@@ -41,28 +39,25 @@ static pid_t *noted;
 static size_t noted_count, noted_room;
 static char noted_group[PATH_MAX_SAID];
 
-bool real_adopt_all(void)
+bool host_processes_adopt_all(void)
 {
 	way = ADOPTED;
-	own_raise_files(); /* each process has a descriptor */
+	own_processes_raise_files(); /* each process has a descriptor */
 	deaths = epoll_create1(EPOLL_CLOEXEC);
 	return deaths >= 0;
 }
 
-void real_are_reported(void)
+void host_processes_are_reported(void)
 {
 	way = REPORTED;
 }
 
 static bool is_known(pid_t pid)
 {
-	return pid > 0 && pid < PIDS && known[pid] != UNKNOWN;
+	return is_pid(pid) && process_at(pid)->life != UNKNOWN;
 }
 
-/* Linux 6.9 and 6.13 */
-#ifndef PIDFD_THREAD
-#define PIDFD_THREAD O_EXCL
-#endif
+/* Linux 6.13 */
 struct thread_info {
 	uint64_t mask, group;
 	uint32_t thread, process, others[9];
@@ -70,13 +65,13 @@ struct thread_info {
 };
 #define GET_THREAD_INFO _IOWR(0xFF, 11, struct thread_info)
 
-pid_t real_process_of(pid_t thread)
+pid_t host_processes_process_of(pid_t thread)
 {
 	struct thread_info info = { .mask = 1 };
-	cleanup_fd int fd = (int)syscall(SYS_pidfd_open, thread, PIDFD_THREAD);
+	cleanup_fd int fd = open_thread(thread);
 	if (fd >= 0 && ioctl(fd, GET_THREAD_INFO, &info) == 0)
 		return (pid_t)info.process;
-	long process = status_number(thread, "Tgid:");
+	long process = proc_status_number(thread, "Tgid:");
 	return process > 0 ? (pid_t)process : thread;
 }
 
@@ -84,10 +79,10 @@ pid_t real_process_of(pid_t thread)
 
 static int remember(pid_t pid)
 {
-	int fd = (int)syscall(SYS_pidfd_open, pid, 0);
+	int fd = open_process(pid);
 	if (fd < 0)
 		return -errno;
-	struct adopted *more = with_room(adopted, adopted_count + 1, &adopted_room, sizeof *more);
+	struct adopted *more = growing_array_make_room(adopted, adopted_count + 1, &adopted_room, sizeof *more);
 	if (!more) {
 		close(fd);
 		return -ENOMEM;
@@ -99,13 +94,13 @@ static int remember(pid_t pid)
 		return -ENOMEM;
 	}
 	adopted[adopted_count++] = (struct adopted){ pid, fd };
-	known[pid] = LIVE;
+	process_at(pid)->life = LIVE;
 	return 0;
 }
 
 static void drop_adopted(pid_t pid)
 {
-	known[pid] = UNKNOWN;
+	process_at(pid)->life = UNKNOWN;
 	for (size_t i = 0; i < adopted_count; i++)
 		if (adopted[i].pid == pid) {
 			close(adopted[i].fd);
@@ -114,15 +109,10 @@ static void drop_adopted(pid_t pid)
 		}
 }
 
-static bool was_waited_for(const struct adopted *a)
-{
-	return syscall(SYS_pidfd_send_signal, a->fd, 0, NULL, 0) && errno == ESRCH;
-}
-
 /* It is no child that has just been made: so it is remembered until it is waited for. */
 static void end_adopted(pid_t pid)
 {
-	known[pid] = ENDED;
+	process_at(pid)->life = ENDED;
 	for (size_t i = 0; i < adopted_count; i++)
 		if (adopted[i].pid == pid)
 			epoll_ctl(deaths, EPOLL_CTL_DEL, adopted[i].fd, NULL); /* it cannot fail: it was added */
@@ -130,13 +120,13 @@ static void end_adopted(pid_t pid)
 
 static bool has_ended(pid_t pid)
 {
-	return is_known(pid) && known[pid] == ENDED;
+	return is_known(pid) && process_at(pid)->life == ENDED;
 }
 
 static void drop_ended(void)
 {
 	for (size_t i = adopted_count; i-- > 0;)
-		if (has_ended(adopted[i].pid) && was_waited_for(&adopted[i]))
+		if (has_ended(adopted[i].pid) && was_waited_for(adopted[i].fd))
 			drop_adopted(adopted[i].pid);
 }
 
@@ -148,7 +138,7 @@ static int die(pid_t pid)
 	bool stood = fault == 0;
 	if (fault == -ENOMEM)
 		return fault;
-	if (known[pid] != DYING && (fault = engine_line("exit %d", pid)) && fault != -ESRCH)
+	if (process_at(pid)->life != DYING && (fault = engine_line("exit %d", pid)) && fault != -ESRCH)
 		return fault;
 	end_adopted(pid);
 	if (stood)
@@ -160,7 +150,7 @@ static int die(pid_t pid)
    process, or nothing. */
 static bool is_child_of(pid_t child, pid_t parent)
 {
-	return status_number(child, "PPid:") == parent;
+	return proc_status_number(child, "PPid:") == parent;
 }
 
 /* 0 or -ENOMEM */
@@ -224,10 +214,12 @@ static int drop_disowned(void)
 {
 	for (size_t i = adopted_count; i-- > 0;) {
 		pid_t pid = adopted[i].pid;
-		int fault = known[pid] == DISOWNED ? engine_line("exit %d", pid) : 0;
+		if (process_at(pid)->life != DISOWNED)
+			continue;
+		int fault = engine_line("exit %d", pid);
 		if (fault == -ENOMEM)
 			return fault;
-		if (known[pid] == DISOWNED && (fault == 0 || fault == -ESRCH))
+		if (fault == 0 || fault == -ESRCH)
 			drop_adopted(pid);
 	}
 	return 0;
@@ -250,23 +242,24 @@ static int sweep_adopted(void)
 	return 0;
 }
 
-int real_sweep(void)
+int host_processes_sweep(void)
 {
 	if (way == REPORTED)
-		return reported_sweep();
+		return run_processes_sweep();
 	return way == ADOPTED && adopted_count ? sweep_adopted() : 0;
 }
 
-int real_adopt(pid_t pid, bool *is_new)
+int host_processes_adopt(pid_t pid, bool *is_new)
 {
 	char group[PATH_MAX_SAID];
 	*is_new = false;
 	if (way == REPORTED)
-		return reported_move(pid);
+		return run_processes_move(pid);
 	if (way != ADOPTED || pid == PROCESS_ONE)
 		return 0;
 	if (is_known(pid) && !has_ended(pid)) {
-		known[pid] = known[pid] == DISOWNED ? LIVE : known[pid];
+		if (process_at(pid)->life == DISOWNED)
+			process_at(pid)->life = LIVE;
 		return 0;
 	}
 	int fault = engine_where(pid, group, sizeof group);
@@ -284,9 +277,9 @@ int real_adopt(pid_t pid, bool *is_new)
 	return fault;
 }
 
-void real_disown(pid_t pid)
+void host_processes_disown(pid_t pid)
 {
-	known[pid] = DISOWNED;
+	process_at(pid)->life = DISOWNED;
 	drop_disowned();
 }
 
@@ -297,7 +290,7 @@ static int note(pid_t pid, const char *group)
 	(void)group;
 	if (way == REPORTED ? tasks_is_thread(pid) : !is_known(pid) || has_ended(pid))
 		return 0; /* a thread is killed with its process */
-	pid_t *more = with_room(noted, noted_count + 1, &noted_room, sizeof *more);
+	pid_t *more = growing_array_make_room(noted, noted_count + 1, &noted_room, sizeof *more);
 	if (!more)
 		return -ENOMEM;
 	noted = more;
@@ -305,11 +298,11 @@ static int note(pid_t pid, const char *group)
 	return 0;
 }
 
-int real_note(const char *group)
+int host_processes_note(const char *group)
 {
 	noted_count = 0;
 	snprintf(noted_group, sizeof noted_group, "%s", way == REPORTED ? group : "");
-	return way == NUMBERS ? 0 : listed_each(group, true, note);
+	return way == NUMBERS ? 0 : members_each(group, true, note);
 }
 
 /* A number means the same process until its death is noticed; for an adopted process the descriptor tells. */
@@ -317,20 +310,20 @@ static void slay(pid_t pid)
 {
 	if (way == REPORTED) {
 		/* the supervisor reports a death before the number is free, so a living one is still this process */
-		if (reported_kill(pid))
+		if (run_processes_kill(pid))
 			kill(pid, SIGKILL); /* it fails if the process has ended */
 		return;
 	}
-	known[pid] = DYING;
+	process_at(pid)->life = DYING;
 	for (size_t i = 0; i < adopted_count; i++)
 		if (adopted[i].pid == pid)
 			syscall(SYS_pidfd_send_signal, adopted[i].fd, SIGKILL, NULL, 0); /* it fails if the process has ended */
 }
 
-void real_kill_noted(void)
+void host_processes_kill_noted(void)
 {
 	for (size_t i = 0; i < noted_count; i++)
 		slay(noted[i]);
 	if (noted_group[0])
-		reserved_kill(noted_group);
+		reservations_kill(noted_group);
 }

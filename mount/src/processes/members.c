@@ -1,6 +1,6 @@
-#include "listed.h"
-#include "engine.h"
-#include "shown.h"
+#include "processes/members.h"
+#include "engine/engine.h"
+#include "processes/visible_processes.h"
 #include <stdlib.h>
 #include <string.h>
 
@@ -11,7 +11,7 @@ static int each_in(const char *group, bool all, int (*take)(pid_t pid, const cha
 	if (fault)
 		return fault;
 	const char *text = engine_text(&size);
-	if (!all && (fault = shown_text(group, file_named("cgroup.procs", true), &text, &size)))
+	if (!all && (fault = visible_processes_text(group, file_named("cgroup.procs", true), &text, &size)))
 		return fault;
 	for (const char *end = text + size; text < end && fault == 0;) {
 		pid_t pid = (pid_t)strtol(text, NULL, 10);
@@ -21,7 +21,7 @@ static int each_in(const char *group, bool all, int (*take)(pid_t pid, const cha
 	return fault;
 }
 
-int listed_each(const char *top, bool all, int (*take)(pid_t pid, const char *group))
+int members_each(const char *top, bool all, int (*take)(pid_t pid, const char *group))
 {
 	const char *paths;
 	size_t count;

@@ -1,6 +1,6 @@
-#include "reserved.h"
-#include "engine.h"
-#include "place.h"
+#include "processes/reservations.h"
+#include "common/group_paths.h"
+#include "engine/engine.h"
 #include <errno.h>
 #include <stdlib.h>
 #include <string.h>
@@ -8,7 +8,7 @@
 static struct reservation *all;
 static size_t count;
 
-int reserved_add(const struct reservation *like, const char *group, unsigned *number)
+int reservations_add(const struct reservation *like, const char *group, unsigned *number)
 {
 	static unsigned last;
 	WANTS_LOCK();
@@ -28,7 +28,7 @@ int reserved_add(const struct reservation *like, const char *group, unsigned *nu
 	return 0;
 }
 
-const struct reservation *reserved_find(unsigned number)
+const struct reservation *reservations_find(unsigned number)
 {
 	WANTS_LOCK();
 	const struct reservation *r = all;
@@ -37,7 +37,7 @@ const struct reservation *reserved_find(unsigned number)
 	return r;
 }
 
-void reserved_drop(unsigned number)
+void reservations_drop(unsigned number)
 {
 	WANTS_LOCK();
 	struct reservation **at = &all;
@@ -51,13 +51,13 @@ void reserved_drop(unsigned number)
 	free(r);
 }
 
-size_t reserved_count(void)
+size_t reservations_count(void)
 {
 	WANTS_LOCK();
 	return count;
 }
 
-long reserved_below(const char *group)
+long reservations_below(const char *group)
 {
 	long below = 0;
 	WANTS_LOCK();
@@ -66,7 +66,7 @@ long reserved_below(const char *group)
 	return below;
 }
 
-void reserved_kill(const char *group)
+void reservations_kill(const char *group)
 {
 	WANTS_LOCK();
 	for (struct reservation *r = all; r; r = r->next)

@@ -1,7 +1,7 @@
 /* Forks and threads that were allowed and are not made yet. Each counts against every limit at or above its group. All require the
    engine's lock. */
-#ifndef RESERVED_H
-#define RESERVED_H
+#ifndef RESERVATIONS_H
+#define RESERVATIONS_H
 
 #include <stdbool.h>
 #include <stddef.h>
@@ -18,13 +18,13 @@ struct reservation {
 };
 
 /* `like` has what the reservation is for. 0 or -ENOMEM */
-int reserved_add(const struct reservation *like, const char *group, unsigned *number);
-const struct reservation *reserved_find(unsigned number);
-void reserved_drop(unsigned number);
-size_t reserved_count(void);
+int reservations_add(const struct reservation *like, const char *group, unsigned *number);
+const struct reservation *reservations_find(unsigned number);
+void reservations_drop(unsigned number);
+size_t reservations_count(void);
 /* How many there are at or below a group. */
-long reserved_below(const char *group);
+long reservations_below(const char *group);
 /* A kill in the hierarchy reached a group. */
-void reserved_kill(const char *group);
+void reservations_kill(const char *group);
 
 #endif

@@ -1,15 +1,17 @@
-#include "reported.h"
-#include "advance.h"
-#include "cleanup.h"
-#include "controllers.h"
-#include "engine.h"
-#include "freezer.h"
-#include "listed.h"
-#include "place.h"
-#include "reserved.h"
-#include "tasks.h"
-#include "watch.h"
-#include "zombies.h"
+#include "processes/run_processes.h"
+#include "channels/advance.h"
+#include "common/cleanup.h"
+#include "common/group_paths.h"
+#include "common/kernel.h"
+#include "engine/engine.h"
+#include "processes/members.h"
+#include "processes/process_table.h"
+#include "processes/reservations.h"
+#include "processes/tasks.h"
+#include "processes/zombies.h"
+#include "server/freezer.h"
+#include "server/watch.h"
+#include "values/controllers.h"
 #include <errno.h>
 #include <makhloeum.h>
 #include <stdio.h>
@@ -18,16 +20,13 @@
 
 enum { PROCESS_ONE = 1 };
 
-/* A process that a kill in the hierarchy reached is dying: it may fork no more. */
-enum { UNKNOWN, LIVE, DYING };
-static unsigned char known[PIDS];
-static size_t known_count;
+static size_t known_count; /* processes and threads that are not UNKNOWN */
 
 static unsigned long operations; /* of the file system: each may change what was allowed */
 
-static bool in_range(pid_t pid)
+static bool is_of_run(pid_t pid)
 {
-	return pid > PROCESS_ONE && pid < PIDS;
+	return pid != PROCESS_ONE && is_pid(pid);
 }
 
 /* ---------------------------------------------------------------- before a birth */
@@ -40,7 +39,7 @@ static int is_full(const char *group, bool with_reserved)
 	if (fault || most == MK_NO_LIMIT)
 		return fault;
 	fault = engine_current(group, &count);
-	return fault ? fault : count + (uint64_t)(with_reserved ? reserved_below(group) : 0) + 1 > most;
+	return fault ? fault : count + (uint64_t)(with_reserved ? reservations_below(group) : 0) + 1 > most;
 }
 
 static int is_any_full(const char *group, bool with_reserved)
@@ -58,7 +57,7 @@ static pid_t free_number(pid_t below)
 {
 	char group[PATH_MAX_SAID];
 	for (pid_t pid = below - 1; pid > PROCESS_ONE; pid--) {
-		int fault = known[pid] == UNKNOWN ? engine_where(pid, group, sizeof group) : 0;
+		int fault = process_at(pid)->life == UNKNOWN ? engine_where(pid, group, sizeof group) : 0;
 		if (fault)
 			return fault == -ESRCH ? pid : fault;
 	}
@@ -73,7 +72,7 @@ static int refuse(pid_t parent, const char *group)
 	int fault = engine_begin();
 	if (fault)
 		return fault;
-	for (size_t left = reserved_count() + 1; left > 0 && fault == 0; left--) {
+	for (size_t left = reservations_count() + 1; left > 0 && fault == 0; left--) {
 		lowest = free_number(lowest);
 		fault = lowest < 0 ? lowest : engine_line("fork %d %d", parent, lowest);
 		if (fault == 0)
@@ -115,10 +114,10 @@ static int find_place(pid_t parent, const char *group, char at[PATH_MAX_SAID])
 static void allow_none(void)
 {
 	for (unsigned unused = advance_take_any(); unused; unused = advance_take_any())
-		reserved_drop(unused);
+		reservations_drop(unused);
 }
 
-void reported_operation(void)
+void run_processes_operation(void)
 {
 	operations++;
 	allow_none();
@@ -132,47 +131,54 @@ static void allow_next(pid_t process, bool is_thread, const char *group)
 		.in_advance = true,
 		.allowed_in = operations };
 	unsigned next;
-	while (advance_wants(process, is_thread) && zombies_make_room(known_count + 2 * reserved_count() + 2) == 0 &&
-		is_any_full(group, true) == 0 && reserved_add(&like, group, &next) == 0)
-		reserved_drop(advance_give(process, is_thread, next));
+	while (advance_wants(process, is_thread) && zombies_make_room(known_count + 2 * reservations_count() + 2) == 0 &&
+		is_any_full(group, true) == 0 && reservations_add(&like, group, &next) == 0)
+		reservations_drop(advance_give(process, is_thread, next));
 }
 
-int reported_reserve(pid_t parent, const char *group, bool is_thread, unsigned *reservation)
+/* The same with reservations, once what only seems to be there has left: what was allowed in advance, and zombies that were waited
+   for. */
+static int is_full_at_last(const char *group)
+{
+	int full = is_any_full(group, true);
+	if (full <= 0)
+		return full;
+	allow_none();
+	int fault = zombies_sweep(true);
+	return fault ? fault : is_any_full(group, true);
+}
+
+/* Whether this process may make any child now: 0 or -errno. The room is for all that `refuse` makes: as many as there are reservations,
+   and one more. */
+static int may_make(pid_t parent)
+{
+	int fault = zombies_make_room(known_count + 2 * reservations_count() + 2);
+	if (fault == 0)
+		fault = zombies_sweep(false);
+	if (fault)
+		return fault;
+	bool is_known = is_of_run(parent) || parent == 0;
+	return is_known && process_at(parent)->life != DYING && has_room(parent) ? 0 : -EAGAIN;
+}
+
+int run_processes_reserve(pid_t parent, const char *group, bool is_thread, unsigned *reservation)
 {
 	char at[PATH_MAX_SAID];
-	/* `refuse` makes as many processes as there are reservations, and one more */
-	int fault = zombies_make_room(known_count + 2 * reserved_count() + 2);
-	if (fault || (fault = zombies_sweep(false)))
-		return fault;
-	if (!in_range(parent) && parent != 0)
-		return -EAGAIN;
-	if (known[parent] == DYING)
-		return -EAGAIN;
-	if (!has_room(parent))
-		return -EAGAIN;
-	if ((fault = find_place(parent, is_thread ? NULL : group, at)))
+	int fault = may_make(parent);
+	if (fault == 0)
+		fault = find_place(parent, is_thread ? NULL : group, at);
+	if (fault)
 		return fault;
 	if (is_thread && group && strcmp(group, at) != 0)
 		return -EOPNOTSUPP;
-	int full = is_any_full(at, true);
-	if (full > 0) { /* perhaps by what was allowed in advance */
-		allow_none();
-		full = is_any_full(at, true);
-	}
-	if (full > 0 && zombies_count() > 0) { /* some may have been waited for */
-		if ((fault = zombies_sweep(true)))
-			return fault;
-		full = is_any_full(at, true);
-	}
-	if (full < 0)
-		return full;
-	if (full) /* a child for another group is refused in that group, where nobody forks: no event is counted */
-		return group && !is_thread ? -EAGAIN : refuse(parent, at);
 	const struct reservation like = { .parent = parent,
 		.elsewhere = group && !is_thread,
 		.is_thread = is_thread,
 		.allowed_in = operations };
-	return reserved_add(&like, at, reservation);
+	int full = is_full_at_last(at);
+	if (full > 0) /* a child for another group is refused in that group, where nobody forks: no event is counted */
+		return like.elsewhere ? -EAGAIN : refuse(parent, at);
+	return full < 0 ? full : reservations_add(&like, at, reservation);
 }
 
 /* ---------------------------------------------------------------- births and deaths */
@@ -212,9 +218,9 @@ static int tell(const struct reservation *r, pid_t child, bool *frozen)
 {
 	char at[PATH_MAX_SAID];
 	bool has_parent;
-	if (!in_range(child) || !zombies_settle(child))
+	if (!is_of_run(child) || !zombies_settle(child))
 		return -EAGAIN;
-	if (r->killed || known[r->parent] == DYING)
+	if (r->killed || process_at(r->parent)->life == DYING)
 		return -ESRCH;
 	/* whom its parent has waited for since the last question leaves first: else the peak would have both */
 	int fault = r->in_advance ? zombies_sweep(false) : 0;
@@ -222,8 +228,9 @@ static int tell(const struct reservation *r, pid_t child, bool *frozen)
 		fault = put(r, child, at, &has_parent);
 	if (fault)
 		return fault;
-	known_count += known[child] == UNKNOWN;
-	known[child] = LIVE;
+	struct process *c = process_at(child);
+	known_count += c->life == UNKNOWN;
+	c->life = LIVE;
 	if (!has_parent)
 		watch_above(at);
 	if (r->is_thread)
@@ -236,13 +243,13 @@ static int tell(const struct reservation *r, pid_t child, bool *frozen)
 	return 0;
 }
 
-int reported_born(unsigned reservation, pid_t child, bool *frozen)
+int run_processes_born(unsigned reservation, pid_t child, bool *frozen)
 {
-	const struct reservation *r = reserved_find(reservation);
+	const struct reservation *r = reservations_find(reservation);
 	if (!r)
 		return -EAGAIN;
 	int fault = tell(r, child, frozen);
-	reserved_drop(reservation);
+	reservations_drop(reservation);
 	if (fault == 0 || fault == -ESRCH || fault == -ENOENT || fault == -ENOMEM)
 		return fault;
 	trace_may_be_full = true;
@@ -253,8 +260,9 @@ int reported_born(unsigned reservation, pid_t child, bool *frozen)
 /* Nobody waits for a thread. */
 static void thread_ended(pid_t thread)
 {
-	bool is_dying = known[thread] == DYING;
-	known[thread] = UNKNOWN;
+	struct process *t = process_at(thread);
+	bool is_dying = t->life == DYING;
+	t->life = UNKNOWN;
 	known_count--;
 	tasks_drop(thread);
 	int fault = is_dying ? 0 : engine_line("exit %d", thread);
@@ -262,22 +270,24 @@ static void thread_ended(pid_t thread)
 		zombies_add_gone(thread);
 }
 
-void reported_exited(pid_t pid)
+void run_processes_exited(pid_t pid)
 {
 	char group[PATH_MAX_SAID];
-	if (!in_range(pid) || known[pid] == UNKNOWN)
+	if (!is_of_run(pid) || process_at(pid)->life == UNKNOWN)
 		return;
 	if (tasks_is_thread(pid)) {
 		thread_ended(pid);
 		return;
 	}
-	bool stands = known[pid] == LIVE && engine_where(pid, group, sizeof group) != -ESRCH;
-	known[pid] = UNKNOWN;
+	struct process *p = process_at(pid);
+	bool stands = p->life == LIVE && engine_where(pid, group, sizeof group) != -ESRCH;
+	p->life = UNKNOWN;
 	known_count--;
 	freezer_gone(pid);
+	/* else the next process of this number would have what this one was allowed in advance */
 	for (unsigned unused = advance_take(pid, true); unused; unused = advance_take(pid, true))
-		reserved_drop(unused);
-	reserved_drop(advance_take(pid, false));
+		reservations_drop(unused);
+	reservations_drop(advance_take(pid, false));
 	if (!stands)
 		return;
 	zombies_add(pid);
@@ -286,14 +296,14 @@ void reported_exited(pid_t pid)
 
 /* ---------------------------------------------------------------- what else the file system needs */
 
-int reported_sweep(void)
+int run_processes_sweep(void)
 {
 	freezer_catch_up();
 	return zombies_sweep(true);
 }
 
 /* A program may write any number; a process that is not its own stays where it is. */
-int reported_move(pid_t pid)
+int run_processes_move(pid_t pid)
 {
 	if (zombies_has(pid))
 		return 1;
@@ -324,7 +334,7 @@ static int move_all(const char *group, const char *to)
 	return fault;
 }
 
-int reported_leave(const char *group)
+int run_processes_leave(const char *group)
 {
 	char above[PATH_MAX_SAID];
 	const char *names;
@@ -334,7 +344,7 @@ int reported_leave(const char *group)
 	int fault = engine_children(group, &names, &count);
 	if (fault || count)
 		return fault;
-	fault = listed_each(group, true, is_alive);
+	fault = members_each(group, true, is_alive);
 	if (fault)
 		return fault < 0 ? fault : 0;
 	snprintf(above, sizeof above, "%s", group);
@@ -342,11 +352,11 @@ int reported_leave(const char *group)
 	return move_all(group, above);
 }
 
-bool reported_kill(pid_t pid)
+bool run_processes_kill(pid_t pid)
 {
-	if (!in_range(pid) || zombies_forget(pid) || known[pid] == UNKNOWN)
+	if (!is_of_run(pid) || zombies_forget(pid) || process_at(pid)->life == UNKNOWN)
 		return false;
 	for (pid_t t = pid; t; t = tasks_next(t))
-		known[t] = DYING;
+		process_at(t)->life = DYING;
 	return true;
 }

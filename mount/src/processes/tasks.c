@@ -1,53 +1,48 @@
-#include "tasks.h"
-#include "bounds.h"
-#include "engine.h"
-#include "place.h"
+#include "processes/tasks.h"
+#include "common/group_paths.h"
+#include "common/kernel.h"
+#include "engine/engine.h"
+#include "processes/process_table.h"
 #include <errno.h>
 
 /* The threads of a process that have not ended are a ring that begins and ends at the process. */
-static struct task {
-	pid_t process, next, before; /* 0: it is no thread; it is alone */
-} all[PIDS];
 static bool any;
-
-static bool in_range(pid_t number)
-{
-	return number > 0 && number < PIDS;
-}
 
 void tasks_begin_process(pid_t process)
 {
 	WANTS_LOCK();
-	if (tasks_is_thread(process)) /* else its place in the table takes no memory */
-		all[process] = (struct task){ 0 };
+	struct process *p = process_at(process);
+	p->thread_of = p->next_thread = p->thread_before = 0;
 }
 
 void tasks_add(pid_t thread, pid_t process)
 {
 	WANTS_LOCK();
-	if (!in_range(thread) || !in_range(process))
+	if (!is_pid(thread) || !is_pid(process))
 		return;
-	pid_t last = all[process].before ? all[process].before : process;
-	all[thread] = (struct task){ process, process, last };
-	all[last].next = thread;
-	all[process].before = thread;
+	struct process *t = process_at(thread), *first = process_at(process);
+	pid_t last = first->thread_before ? first->thread_before : process;
+	t->thread_of = t->next_thread = process;
+	t->thread_before = last;
+	process_at(last)->next_thread = thread;
+	first->thread_before = thread;
 	any = true;
 }
 
 void tasks_drop(pid_t thread)
 {
 	WANTS_LOCK();
-	if (!in_range(thread) || !all[thread].next)
+	struct process *t = is_pid(thread) ? process_at(thread) : NULL;
+	if (!t || !t->next_thread)
 		return;
-	all[all[thread].before].next = all[thread].next;
-	all[all[thread].next].before = all[thread].before;
-	all[thread].next = all[thread].before = 0;
+	process_at(t->thread_before)->next_thread = t->next_thread;
+	process_at(t->next_thread)->thread_before = t->thread_before;
+	t->next_thread = t->thread_before = 0;
 }
 
 bool tasks_is_thread(pid_t number)
 {
-	WANTS_LOCK();
-	return in_range(number) && all[number].process != 0;
+	return is_pid(number) && process_at(number)->thread_of != 0;
 }
 
 bool tasks_any(void)
@@ -58,13 +53,12 @@ bool tasks_any(void)
 
 pid_t tasks_process(pid_t number)
 {
-	return tasks_is_thread(number) && all[number].next ? all[number].process : number;
+	return tasks_is_thread(number) && process_at(number)->next_thread ? process_at(number)->thread_of : number;
 }
 
 pid_t tasks_next(pid_t number)
 {
-	WANTS_LOCK();
-	pid_t next = in_range(number) ? all[number].next : 0;
+	pid_t next = is_pid(number) ? process_at(number)->next_thread : 0;
 	return tasks_is_thread(next) ? next : 0;
 }
 

@@ -1,30 +1,26 @@
-#include "shown.h"
-#include "cleanup.h"
-#include "engine.h"
-#include "tasks.h"
-#include "zombies.h"
+#include "processes/visible_processes.h"
+#include "common/cleanup.h"
+#include "common/kernel.h"
+#include "engine/engine.h"
+#include "processes/members.h"
+#include "processes/tasks.h"
+#include "processes/zombies.h"
 #include <errno.h>
 #include <stdbool.h>
 #include <stdint.h>
 #include <stdlib.h>
 #include <string.h>
 #include <sys/ioctl.h>
-#include <sys/syscall.h>
-#include <unistd.h>
-
-#ifndef PIDFD_GET_UTS_NAMESPACE
-#define PIDFD_GET_UTS_NAMESPACE _IO(0xFF, 10) /* Linux 6.11 */
-#endif
 
 /* A first thread that ended before the others keeps its number, and has no memory and no namespaces any more. The kernel says so
    without looking up a path; the latter also of a program whose memory this process may not look at. */
 static bool has_ended(pid_t process)
 {
-	if (syscall(SYS_move_pages, process, 0UL, NULL, NULL, NULL, 0) == 0)
+	if (look_for_memory(process) == 0)
 		return false;
 	if (errno != EPERM)
 		return errno == EINVAL;
-	cleanup_fd int fd = (int)syscall(SYS_pidfd_open, process, 0);
+	cleanup_fd int fd = open_process(process);
 	cleanup_fd int space = fd < 0 ? -1 : ioctl(fd, PIDFD_GET_UTS_NAMESPACE, 0);
 	return fd >= 0 && space < 0 && errno == ESRCH;
 }
@@ -52,17 +48,25 @@ static size_t shorten(char *procs, bool threads)
 	return (size_t)(to - procs);
 }
 
-/* 1 if there is nobody but zombies; 0; -errno */
-static int are_all_zombies(const char *group)
+static int is_alive(pid_t pid, const char *group)
 {
-	uint64_t count, dead;
-	int fault = engine_current(group, &count);
-	if (fault == 0)
-		fault = zombies_below(group, &dead);
-	return fault ? fault : count == dead;
+	(void)group;
+	return !zombies_has(pid);
 }
 
-int shown_text(const char *group, const struct file *file, const char **text, size_t *size)
+/* 1 if there is nobody but zombies; 0; -errno. This is asked at each fork and end beside a watch: of many zombies none is looked at if
+   more processes are counted than there are zombies, and else none of another group. */
+static int are_all_zombies(const char *group)
+{
+	uint64_t count;
+	int fault = engine_current(group, &count);
+	if (fault || count > zombies_count())
+		return fault;
+	int lives = members_each(group, true, is_alive);
+	return lives < 0 ? lives : !lives;
+}
+
+int visible_processes_text(const char *group, const struct file *file, const char **text, size_t *size)
 {
 	static char *own;
 	if ((zombies_count() == 0 && !tasks_any()) || *size == 0)

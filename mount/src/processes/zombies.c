@@ -1,15 +1,15 @@
-#include "zombies.h"
-#include "cleanup.h"
-#include "engine.h"
-#include "place.h"
-#include "room.h"
+#include "processes/zombies.h"
+#include "common/cleanup.h"
+#include "common/growing_array.h"
+#include "common/kernel.h"
+#include "engine/engine.h"
+#include "processes/process_table.h"
 #include <errno.h>
 #include <poll.h>
 #include <signal.h>
 #include <stdio.h>
 #include <sys/epoll.h>
 #include <sys/resource.h>
-#include <sys/syscall.h>
 #include <sys/utsname.h>
 #include <unistd.h>
 
@@ -21,7 +21,6 @@ static struct zombie {
 	bool gone;
 } * all;
 static size_t count, room, gone_count, unnamed_count, next_scanned;
-static unsigned place[PIDS]; /* its place in the list of all, from 1; 0: it is not a zombie */
 
 /* A pidfd hangs up once its process was waited for (Linux 6.9): so the kernel names those to look at, among very many. */
 static int hangups = -1;
@@ -42,21 +41,24 @@ static bool is_unnamed(const struct zombie *z)
 	return z->fd < 0 || hangups < 0 || !kernel_names();
 }
 
-static struct zombie *find(pid_t pid)
+/* From 1; 0 if it is no zombie. */
+static size_t place_of(pid_t pid)
 {
-	return pid > 0 && pid < PIDS && place[pid] ? &all[place[pid] - 1] : NULL;
+	return is_pid(pid) ? process_at(pid)->zombie : 0;
 }
 
-static void drop(struct zombie *z)
+/* The last one takes the place of the one that leaves: nothing here depends on their order. */
+static void drop(size_t place)
 {
+	struct zombie *z = &all[place - 1];
 	unnamed_count -= is_unnamed(z);
 	if (z->fd >= 0)
 		close(z->fd);
 	gone_count -= z->gone;
-	place[z->pid] = 0;
+	process_at(z->pid)->zombie = 0;
 	*z = all[--count];
-	if (z != &all[count])
-		place[z->pid] = (unsigned)(z - all) + 1;
+	if (place <= count)
+		process_at(z->pid)->zombie = (unsigned)place;
 }
 
 int zombies_make_room(size_t more)
@@ -64,7 +66,7 @@ int zombies_make_room(size_t more)
 	WANTS_LOCK();
 	if (count + more <= room)
 		return 0;
-	struct zombie *at = with_room(all, count + more, &room, sizeof *at);
+	struct zombie *at = growing_array_make_room(all, count + more, &room, sizeof *at);
 	if (!at)
 		return -ENOMEM;
 	all = at;
@@ -81,7 +83,7 @@ static void add(pid_t pid, int fd, bool gone)
 	}
 	all[count] = (struct zombie){ pid, fd, gone };
 	unnamed_count += is_unnamed(&all[count]);
-	place[pid] = (unsigned)++count;
+	process_at(pid)->zombie = (unsigned)++count;
 	gone_count += gone;
 }
 
@@ -101,7 +103,7 @@ static bool has_ended(int process)
 void zombies_add(pid_t pid)
 {
 	bool may = may_open();
-	int fd = may ? (int)syscall(SYS_pidfd_open, pid, 0) : -1;
+	int fd = may ? open_process(pid) : -1;
 	struct epoll_event none = { .events = 0, .data.u32 = (unsigned)pid };
 	if (may && (fd < 0 ? errno == ESRCH : !has_ended(fd))) {
 		/* it was waited for already, and another may have its number */
@@ -126,24 +128,25 @@ void zombies_add_gone(pid_t pid)
 /* A descriptor means this process, even if another has its number later. Without a descriptor: if another process of the
    run gets the number, its birth shows that this one is gone; a process outside the run that has the number keeps the place
    as long as it lives. */
-static bool was_waited_for(const struct zombie *z)
+static bool is_gone(const struct zombie *z)
 {
 	if (z->gone)
 		return true;
 	if (z->fd >= 0)
-		return syscall(SYS_pidfd_send_signal, z->fd, 0, NULL, 0) && errno == ESRCH;
+		return was_waited_for(z->fd);
 	return kill(z->pid, 0) && errno == ESRCH;
 }
 
 /* 0, or -errno if the line could not be kept: it is tried again. */
-static int let_exit(struct zombie *z)
+static int let_exit(size_t place)
 {
+	struct zombie *z = &all[place - 1];
 	gone_count += !z->gone;
 	z->gone = true;
 	int fault = engine_line("exit %d", z->pid);
 	if (fault && fault != -ESRCH)
 		return fault;
-	drop(z);
+	drop(place);
 	return 0;
 }
 
@@ -152,7 +155,7 @@ static int look_at_next(void)
 {
 	next_scanned = next_scanned && next_scanned <= count ? next_scanned - 1 : count - 1;
 	struct zombie *z = &all[next_scanned];
-	return is_unnamed(z) && was_waited_for(z) ? let_exit(z) : 0;
+	return is_unnamed(z) && is_gone(z) ? let_exit(next_scanned + 1) : 0;
 }
 
 /* Those that the kernel names; all whose exit was tried before; and of the others all, or a few in turn. */
@@ -163,13 +166,13 @@ static int sweep(bool looks_at_all)
 	do {
 		n = hangups < 0 ? 0 : epoll_wait(hangups, waited, TAKEN, 0);
 		for (int i = 0; i < n; i++) {
-			struct zombie *z = find((pid_t)waited[i].data.u32);
-			if (z && (fault = let_exit(z)))
+			size_t place = place_of((pid_t)waited[i].data.u32);
+			if (place && (fault = let_exit(place)))
 				return fault;
 		}
 	} while (n == TAKEN);
-	for (size_t i = count; gone_count && i-- > 0;)
-		if (all[i].gone && (fault = let_exit(&all[i])))
+	for (size_t place = count; gone_count && place > 0; place--)
+		if (all[place - 1].gone && (fault = let_exit(place)))
 			return fault;
 	if (unnamed_count == 0)
 		return 0;
@@ -186,37 +189,24 @@ int zombies_sweep(bool looks_at_all)
 
 bool zombies_settle(pid_t pid)
 {
-	struct zombie *z = find(pid);
-	return !z || let_exit(z) == 0;
+	size_t place = place_of(pid);
+	return !place || let_exit(place) == 0;
 }
 
 bool zombies_has(pid_t pid)
 {
-	return find(pid) != NULL;
+	return place_of(pid) != 0;
 }
 
 bool zombies_forget(pid_t pid)
 {
-	struct zombie *z = find(pid);
-	if (z)
-		drop(z);
-	return z != NULL;
+	size_t place = place_of(pid);
+	if (place)
+		drop(place);
+	return place != 0;
 }
 
 size_t zombies_count(void)
 {
 	return count;
-}
-
-int zombies_below(const char *group, uint64_t *below)
-{
-	char at[PATH_MAX_SAID];
-	*below = 0;
-	for (size_t i = 0; i < count; i++) {
-		int fault = engine_where(all[i].pid, at, sizeof at);
-		if (fault == -ENOMEM)
-			return fault;
-		*below += fault == 0 && is_at_or_below(at, group);
-	}
-	return 0;
 }

@@ -5,7 +5,6 @@
 
 #include <stdbool.h>
 #include <stddef.h>
-#include <stdint.h>
 #include <sys/types.h>
 
 /* Before a process is made: room for its end, for that of all others, and for a number of others, which have no process yet. Then there is
@@ -25,7 +24,5 @@ bool zombies_has(pid_t pid);
 /* True if it was one. The hierarchy no longer has it. */
 bool zombies_forget(pid_t pid);
 size_t zombies_count(void);
-/* How many there are at or below a group. 0 or -ENOMEM */
-int zombies_below(const char *group, uint64_t *below);
 
 #endif

@@ -1,4 +1,4 @@
-#include "execute.h"
+#include "run/execute.h"
 #include <errno.h>
 #include <limits.h>
 #include <stdbool.h>

@@ -1,27 +1,35 @@
-#include "run.h"
-#include "advance.h"
-#include "births.h"
-#include "cleanup.h"
-#include "engine.h"
-#include "execute.h"
-#include "filter.h"
-#include "freezer.h"
-#include "groups.h"
-#include "halts.h"
-#include "helper.h"
-#include "link.h"
-#include "news.h"
-#include "operations.h"
-#include "own.h"
-#include "passing.h"
-#include "real.h"
-#include "roots.h"
-#include "signals.h"
-#include "space.h"
-#include "tables.h"
-#include "tracer.h"
-#include "watch.h"
+#include "run/run.h"
+#include "channels/advance.h"
+#include "channels/descriptor_passing.h"
+#include "channels/roots.h"
+#include "channels/supervisor_events.h"
+#include "channels/table_channel.h"
+#include "common/cleanup.h"
+#include "common/kernel.h"
+#include "common/message.h"
+#include "common/own_processes.h"
+#include "common/proc_status.h"
+#include "engine/engine.h"
+#include "helper/helper.h"
+#include "helper/mount_root.h"
+#include "processes/host_processes.h"
+#include "run/execute.h"
+#include "run/inherited_files.h"
+#include "run/needs.h"
+#include "run/run_namespaces.h"
+#include "server/freezer.h"
+#include "server/operations.h"
+#include "server/supervisor_questions.h"
+#include "server/watch.h"
+#include "supervisor/births.h"
+#include "supervisor/filter.h"
+#include "supervisor/frozen_threads.h"
+#include "supervisor/job_control.h"
+#include "supervisor/link.h"
+#include "supervisor/signals.h"
+#include "supervisor/tracer.h"
 #include <errno.h>
+#include <fcntl.h>
 #include <poll.h>
 #include <signal.h>
 #include <stdio.h>
@@ -30,7 +38,6 @@
 #include <sys/mount.h>
 #include <sys/prctl.h>
 #include <sys/socket.h>
-#include <sys/syscall.h>
 #include <sys/wait.h>
 #include <unistd.h>
 
@@ -38,11 +45,9 @@ enum { REFUSED_HERE = 2, NOT_EXECUTABLE = 126, NOT_FOUND = 127, KILLED = 128, PA
 
 /* ---------------------------------------------------------------- what the program inherits */
 
-/* The program starts with the signals as this process got them. Here none is blocked at first, a child that has ended is
-   waited for, and a pipe or a file that takes no more is an errno. */
-static const int changed[] = { SIGCHLD, SIGPIPE, SIGXFSZ, SIGQUIT };
-enum { CHANGED = sizeof changed / sizeof *changed };
-static struct sigaction found[CHANGED];
+/* The program starts with the signals as this process got them. Here none is blocked at first, and a child that has ended is
+   waited for. */
+static struct signal_action found[SIGNALS + 1];
 static sigset_t found_blocked;
 
 static void keep_signals(void)
@@ -51,16 +56,17 @@ static void keep_signals(void)
 	/* none of these can fail: the signals exist */
 	sigemptyset(&none);
 	sigprocmask(SIG_SETMASK, &none, &found_blocked);
-	for (size_t i = 0; i < CHANGED; i++)
-		sigaction(changed[i], NULL, &found[i]);
+	for (int each = 1; each <= SIGNALS; each++)
+		(void)signal_action(each, NULL, &found[each]);
 	signal(SIGCHLD, SIG_DFL);
 }
 
+/* All are blocked until the end: what came meanwhile then does what it would have done. */
 static void give_signals(void)
 {
-	/* as above */
-	for (size_t i = 0; i < CHANGED; i++)
-		sigaction(changed[i], &found[i], NULL);
+	/* as above, but for SIGKILL and SIGSTOP */
+	for (int each = 1; each <= SIGNALS; each++)
+		(void)signal_action(each, &found[each], NULL);
 	sigprocmask(SIG_SETMASK, &found_blocked, NULL);
 }
 
@@ -76,14 +82,19 @@ static pid_t start_server(int connection, const int ends[2])
 	pid_t self = getpid(), pid = fork();
 	if (pid)
 		return pid;
+	own_processes_ignore_signals(); /* it answers no call before, and the program begins after one; libfuse leaves them so */
 	close(ends[0]);
-	groups_end();
-	tables_be(TABLES_SERVER);
+	mount_root_end();
+	table_channel_be(TABLE_CHANNEL_SERVER);
 	setsid(); /* it fails only for the leader of a group, which a child is not */
 	snprintf(where, sizeof where, "/dev/fd/%d", connection);
-	if (!own_dies_with(self) || !space_stand_in_proc() || !link_answer(ends[1]))
+	if (!own_processes_die_with(self) || !proc_status_enter())
 		_exit(1);
-	own_raise_files(); /* each zombie has one */
+	if (!supervisor_questions_begin(ends[1])) {
+		say("this machine does not allow another thread: %s", strerror(errno));
+		_exit(REFUSED_HERE);
+	}
+	own_processes_raise_files(); /* each zombie has one */
 	exit(serve(where, nothing));
 }
 
@@ -100,25 +111,28 @@ static void hide(bool hidden)
 	(void)hidden;
 }
 
-/* Enters its namespaces, waits until it is traced, installs the filter, and becomes the program. */
+/* Enters its namespaces, waits until it is traced, installs the filter, and becomes the program. The supervisor hears of each step by
+   `control`, and answers: the program has its filter only once it is traced, and makes its first call only once the helper has the
+   listener. A supervisor that is killed meanwhile ends this process (own_processes_die_with). */
 static void become(char **program, int control, const struct wishes *wishes, pid_t supervisor)
 {
 	char go;
 	hide(false);
-	if (!own_dies_with(supervisor))
+	if (!own_processes_die_with(supervisor))
 		_exit(1);
-	if (!space_enter_below(wishes))
+	if (!run_namespaces_enter_below(wishes) || !inherited_files_enter())
 		_exit(REFUSED_HERE);
 	if (write(control, "", 1) != 1 || read(control, &go, 1) != 1)
 		_exit(1);
 	prctl(PR_SET_PDEATHSIG, 0, 0, 0, 0); /* it cannot fail. From now on it ends with its tracer */
 	int listener = filter_install();
-	if (listener < 0 || !passing_send(control, "", 1, &listener, 1))
+	if (listener < 0 || !descriptor_passing_send(control, "", 1, &listener, 1))
 		_exit(1);
 	close(listener);
 	if (read(control, &go, 1) != 1)
 		_exit(1);
 	give_signals();
+	run_namespaces_give_up_rights();
 	int fault = execute(program[0], program);
 	say("%s: %s", program[0], strerror(fault));
 	_exit(fault == ENOENT ? NOT_FOUND : NOT_EXECUTABLE);
@@ -133,12 +147,12 @@ struct ears {
 
 static void hear_helper(void)
 {
-	struct memory_reply reply;
+	struct helper_reply reply;
 	while (helper_take(&reply))
-		if (reply.ticket)
+		if (reply.about == CLONE3_ARGUMENTS)
 			births_arguments(&reply);
 		else
-			tracer_filters(reply.thread, reply.filters);
+			tracer_filters(&reply);
 }
 
 /* Of two times to wait; -1: without an end. */
@@ -156,14 +170,16 @@ static int watch_over(const struct ears *ears, pid_t program)
 	struct pollfd from[] = { { .fd = ears->signals, .events = POLLIN }, { .fd = ears->link },
 		{ .fd = ears->helper, .events = POLLIN }, { .fd = ears->freezer, .events = POLLIN } };
 	for (;;) {
-		int next = signals_pass_on(from[0].revents ? ears->signals : -1, program);
+		if (from[0].revents)
+			signals_hear(program);
 		bool more = tracer_look();
 		if (tracer_has_ended(&status))
 			break;
 		if (from[2].revents)
 			hear_helper();
 		orders = (orders || from[3].revents) && tracer_obey();
-		next = sooner(sooner(sooner(next, births_give_up()), halts_look_again()), link_wake_late());
+		int next = sooner(job_control_follow(program), signals_pass_on(program)); /* in this order: it takes some too */
+		next = sooner(sooner(sooner(next, births_give_up()), frozen_threads_look_again()), link_wake_late());
 		if (poll(from, sizeof from / sizeof *from, more || orders ? 0 : next) < 0 && errno != EINTR)
 			break;
 		for (int i = 1; i < 3; i++)
@@ -199,18 +215,26 @@ static int supervise(char **program, const struct wishes *wishes, int signals, i
 		say("this machine does not allow a socket: %s", strerror(errno));
 		return REFUSED_HERE;
 	}
+	job_control_begin(open("/dev/tty", O_RDWR | O_NOCTTY | O_CLOEXEC));
 	/* this process, not the machine's first one, waits for the orphans that the program leaves */
 	prctl(PR_SET_CHILD_SUBREAPER, 1, 0, 0, 0); /* it cannot fail */
+	sigset_t all, held;
+	/* these cannot fail: the signals exist */
+	sigfillset(&all);
+	/* until the program has the caller's actions (give_signals), none may end it or be lost */
+	sigprocmask(SIG_BLOCK, &all, &held);
 	pid_t self = getpid(), pid = fork();
 	if (pid == 0) {
 		close(control[0]); /* else it would wait forever if the supervisor is killed */
 		become(program, control[1], wishes, self);
 	}
+	sigprocmask(SIG_SETMASK, &held, NULL); /* as above */
 	close(control[1]);
 	char there;
 	if (pid >= 0 && read(control[0], &there, 1) != 1)
 		return give_up(pid, NULL); /* it has said why */
-	if (!space_stand_in_proc() || pid < 0 || !tracer_hold(pid)) {
+	/* traced before it has its filter: a call that the filter sends to no tracer fails with ENOSYS */
+	if (!proc_status_enter() || pid < 0 || !tracer_hold(pid)) {
 		snprintf(why, sizeof why, "this machine does not allow a process %s: %s", pid < 0 ? "more" : "to be traced",
 			strerror(errno));
 		if (pid >= 0)
@@ -219,14 +243,20 @@ static int supervise(char **program, const struct wishes *wishes, int signals, i
 		return REFUSED_HERE;
 	}
 	int listener;
-	bool is_there = write(control[0], "", 1) == 1 && passing_take(control[0], &there, 1, &listener, 1, 0);
-	int helper = is_there ? helper_start(listener, pid) : -1;
-	if (helper < 0 || write(control[0], "", 1) != 1)
+	if (write(control[0], "", 1) != 1 || !descriptor_passing_take(control[0], &there, 1, &listener, 1, 0))
 		return give_up(pid, "this machine does not allow seccomp notification");
+	/* ready before the program goes on, whose first open waits for it */
+	int helper = helper_start(listener, pid);
+	if (helper < 0) {
+		snprintf(why, sizeof why, "this machine does not allow another process or thread: %s", strerror(errno));
+		return give_up(pid, why);
+	}
+	if (write(control[0], "", 1) != 1)
+		return give_up(pid, "the program was killed before it began");
 	/* The listener stays open here. If the helper is killed, calls of the program wait until it is killed too; without a listener
 	   they would fail with ENOSYS. */
 	struct ears ears = { signals, link, helper, freezer };
-	halts_begin(freezer);
+	frozen_threads_begin(freezer);
 	return watch_over(&ears, pid);
 }
 
@@ -235,14 +265,14 @@ static void end_server(pid_t server, int end)
 {
 	int status;
 	/* if it fails, the server is looked for all the same */
-	cleanup_fd int ended = (int)syscall(SYS_pidfd_open, server, 0);
+	cleanup_fd int ended = open_process(server);
 	struct pollfd from = { .fd = ended, .events = POLLIN };
 	umount2(cgroup_mount, MNT_DETACH); /* it cannot fail: the program is in this namespace only if it may not unmount */
-	close(end);
+	close(end); /* after that: a second after its last question the server ends whatever it does */
 	for (int i = 0; i < PATIENCE; i++) {
 		if (waitpid(server, &status, WNOHANG))
 			return; /* it has ended, or was waited for by the tracer */
-		kill(server, SIGCONT); /* it cannot fail: it was not waited for */
+		kill(server, SIGCONT); /* it cannot fail: it was not waited for. The program may have stopped it */
 		poll(&from, 1, 10);
 	}
 	kill(server, SIGKILL); /* as above */
@@ -266,19 +296,19 @@ static bool is_traced(void)
    and of the engine ends here. */
 static pid_t start_mount(int ends[2], int *freezer, pid_t *companion)
 {
-	if (!link_make(ends) || !freezer_begin(freezer) || !tables_begin()) {
+	if (!link_make(ends) || !freezer_begin(freezer) || !table_channel_begin()) {
 		say("this machine does not allow another descriptor: %s", strerror(errno));
 		return -1;
 	}
-	if (!advance_begin() || !news_begin() || !roots_begin()) {
+	if (!advance_begin() || !supervisor_events_begin() || !roots_begin()) {
 		say("out of memory");
 		return -1;
 	}
-	int connection = space_mount();
+	int connection = run_namespaces_mount();
 	if (connection < 0)
 		return -1;
-	cleanup_fd int copy = space_copy_mount();
-	if (copy < 0 || !groups_begin()) {
+	cleanup_fd int copy = run_namespaces_copy_mount();
+	if (copy < 0 || !mount_root_begin()) {
 		say("the mount cannot be opened: %s", strerror(errno));
 		return -1;
 	}
@@ -292,15 +322,24 @@ static pid_t start_mount(int ends[2], int *freezer, pid_t *companion)
 	int fault = errno;
 	close(connection);
 	close(ends[1]);
-	tables_be(TABLES_HELPER);
+	table_channel_be(TABLE_CHANNEL_HELPER);
 	*companion = watch_leave();
-	own_add(*companion);
+	own_processes_add(*companion);
 	engine_end();
 	if (server < 0)
 		say("this machine does not allow another process: %s", strerror(fault));
 	else
-		own_add(server);
+		own_processes_add(server);
 	return server;
+}
+
+/* The mount does not answer. A server that could not begin has said why, and ends. */
+static void say_no_answer(pid_t server, int fault)
+{
+	int status = 0;
+	bool ends = fault == ENOTCONN || fault == ECONNABORTED;
+	if (!ends || waitpid(server, &status, 0) != server || !WIFEXITED(status) || WEXITSTATUS(status) != REFUSED_HERE)
+		say("the mount does not answer: %s", strerror(fault));
 }
 
 int run_program(char **program, const struct wishes *asked)
@@ -314,30 +353,30 @@ int run_program(char **program, const struct wishes *asked)
 		say("run does not work inside run, strace or gdb: this process already has a tracer, and can have only one");
 		return REFUSED_HERE;
 	}
-	if (!serve_prepare(&wishes))
-		return REFUSED_HERE;
-	if (!space_enter(&wishes))
+	if (!inherited_files_let_go() || !needs_are_met() || !serve_prepare(&wishes) || !run_namespaces_enter(&wishes))
 		return REFUSED_HERE;
 	look.uid = geteuid();
 	look.gid = getegid();
 	look.marked = true;
+	look.no_threads = wishes.no_threads;
 	hide(true);
-	real_are_reported();
+	host_processes_are_reported();
 	pid_t server = start_mount(ends, &freezer, &companion);
 	if (server < 0)
 		return REFUSED_HERE;
 	link_use(ends[0], server);
 	births_count_threads(!wishes.no_threads);
-	int status = 1, signals = signals_receive();
+	int status = REFUSED_HERE, signals = signals_receive();
 	/* until its first request, the kernel thinks that nobody owns the mount's root, and nothing can be made there */
 	if (stat(cgroup_mount, &(struct stat){ 0 }))
-		say("the mount does not answer: %s", strerror(errno));
+		say_no_answer(server, errno);
 	else if (signals < 0)
 		say("this machine does not allow another descriptor: %s", strerror(errno));
 	else
 		status = supervise(program, &wishes, signals, ends[0], freezer);
-	groups_end();
-	own_kill(companion); /* its descriptor would keep the mount in use */
+	/* before the unmount: each of the two keeps the mount in use, and the server ends once nobody does */
+	mount_root_end();
+	own_processes_kill(companion); /* its descriptor would keep the mount in use */
 	end_server(server, ends[0]);
 	return status;
 }

@@ -1,9 +1,12 @@
-#include "space.h"
-#include "cleanup.h"
-#include "own.h"
-#include "serve.h"
+#include "run/run_namespaces.h"
+#include "common/cleanup.h"
+#include "common/group_paths.h"
+#include "common/message.h"
+#include "common/own_processes.h"
+#include "server/serve.h"
 #include <errno.h>
 #include <fcntl.h>
+#include <linux/capability.h>
 #include <linux/mount.h>
 #include <sched.h>
 #include <stdio.h>
@@ -15,8 +18,6 @@
 
 /* The kernel accepts less than a page of text; two lines are shorter than TWO_LINES. */
 enum { MAP_SIZE = 4096, TWO_LINES = 80 };
-
-const char cgroup_mount[] = "/sys/fs/cgroup", cgroup_source[] = "cgroup2";
 
 static bool put(const char *file, const char *text)
 {
@@ -73,7 +74,7 @@ static bool enter_with_all(void)
 	pid_t writer = fork();
 	if (writer == 0) {
 		close(is_in[1]);
-		if (own_dies_with(self) && read(is_in[0], &byte, 1) == 1 && map_all(self, "uid_map") &&
+		if (own_processes_die_with(self) && read(is_in[0], &byte, 1) == 1 && map_all(self, "uid_map") &&
 			map_all(self, "gid_map"))
 			_exit(0);
 		_exit(errno ? errno : EINVAL);
@@ -88,7 +89,7 @@ static bool enter_with_all(void)
 	return errno == 0;
 }
 
-bool space_enter(const struct wishes *wishes)
+bool run_namespaces_enter(const struct wishes *wishes)
 {
 	if (wishes->users && geteuid()) {
 		say("--users needs root on this machine or in a user namespace: unshare --map-root-user --map-auto makes one");
@@ -101,7 +102,7 @@ bool space_enter(const struct wishes *wishes)
 	return false;
 }
 
-bool space_enter_below(const struct wishes *wishes)
+bool run_namespaces_enter_below(const struct wishes *wishes)
 {
 	bool is_superuser = wishes->users || wishes->as_root;
 	if (is_superuser && !(wishes->users ? enter_with_all() : enter_alone(true))) {
@@ -113,7 +114,15 @@ bool space_enter_below(const struct wishes *wishes)
 	return true;
 }
 
-int space_mount(void)
+void run_namespaces_give_up_rights(void)
+{
+	struct __user_cap_header_struct head = { .version = _LINUX_CAPABILITY_VERSION_3 };
+	struct __user_cap_data_struct none[_LINUX_CAPABILITY_U32S_3] = { 0 };
+	if (geteuid())
+		syscall(SYS_capset, &head, none); /* if a sandbox refuses it, they end with the execve */
+}
+
+int run_namespaces_mount(void)
 {
 	char words[160];
 	int fd = open("/dev/fuse", O_RDWR | O_CLOEXEC);
@@ -130,14 +139,7 @@ int space_mount(void)
 	return fd;
 }
 
-int space_copy_mount(void)
+int run_namespaces_copy_mount(void)
 {
 	return (int)syscall(SYS_open_tree, AT_FDCWD, cgroup_mount, OPEN_TREE_CLONE | OPEN_TREE_CLOEXEC);
-}
-
-bool space_stand_in_proc(void)
-{
-	cleanup_fd int proc = (int)syscall(SYS_open_tree, AT_FDCWD, "/proc",
-		OPEN_TREE_CLONE | OPEN_TREE_CLOEXEC | AT_RECURSIVE);
-	return proc < 0 ? chdir("/proc") == 0 : fchdir(proc) == 0;
 }

@@ -1,12 +1,11 @@
-#include "attributes.h"
-#include "cleanup.h"
-#include "engine.h"
-#include "nodes.h"
-#include "operations.h"
+#include "server/attributes.h"
+#include "common/cleanup.h"
+#include "engine/engine.h"
+#include "server/nodes.h"
+#include "server/operations.h"
 #include <string.h>
 #include <sys/xattr.h>
-
-const char attributes_path[] = "system.makhloeum.group";
+#include <unistd.h>
 
 enum { NAMES_MAX = 128, VALUES_MAX = 128 * 1024 }; /* the kernel's bounds, for one group or file */
 
@@ -22,6 +21,13 @@ static int find_node(uint64_t number, struct node *node)
 {
 	int fault = nodes_find(number, node);
 	return fault == 0 && !node->group ? -EOPNOTSUPP : fault;
+}
+
+/* The same, if the caller may read or write it: that is asked for even if there is no such attribute. */
+static int find_for(fuse_req_t req, uint64_t number, int mask, struct node *node)
+{
+	int fault = find_node(number, node);
+	return fault ? fault : nodes_may(node, mask, fuse_req_ctx(req)->uid);
 }
 
 /* The place of a file's name among these attributes, or the end. */
@@ -70,7 +76,7 @@ static struct attribute *make(const char *name, const char *value, size_t size)
 #pragma GCC diagnostic push
 #pragma GCC diagnostic ignored "-Wanalyzer-malloc-leak"
 #endif
-static int set_in(struct remembered *r, const struct file *file, const char *name, const char *value, size_t size,
+static int set_in(struct group_state *r, const struct file *file, const char *name, const char *value, size_t size,
 	int flags)
 {
 	struct attribute **at = find(&r->attributes, file, name);
@@ -80,7 +86,7 @@ static int set_in(struct remembered *r, const struct file *file, const char *nam
 		return -ENODATA;
 	if (!has_room(r->attributes, file, *at, size))
 		return -ENOSPC;
-	struct attribute *a = make(name, value, size);
+	struct attribute *a = make(name, value, size); /* first: without memory the old value stays */
 	if (!a)
 		return -ENOMEM;
 	if (*at)
@@ -103,7 +109,7 @@ void attributes_set(fuse_req_t req, fuse_ino_t number, const char *name, const c
 {
 	struct node node;
 	engine_lock();
-	int fault = is_users(name) ? find_node(number, &node) : -EOPNOTSUPP;
+	int fault = is_users(name) ? find_for(req, number, W_OK, &node) : -EOPNOTSUPP;
 	if (fault == 0)
 		fault = set_in(node.group, node.file, name, value, size, flags);
 	engine_unlock();
@@ -123,11 +129,11 @@ static void reply(fuse_req_t req, int fault, const char *value, size_t size, siz
 		fuse_reply_xattr(req, size);
 }
 
-static int get(uint64_t number, const char *name, const char **value, size_t *size)
+static int get(fuse_req_t req, uint64_t number, const char *name, const char **value, size_t *size)
 {
 	struct node node;
-	bool is_path = look.marked && strcmp(name, attributes_path) == 0;
-	int fault = is_path || is_users(name) ? find_node(number, &node) : -EOPNOTSUPP;
+	bool is_path = look.marked && strcmp(name, group_attribute) == 0;
+	int fault = is_path || is_users(name) ? find_for(req, number, is_path ? 0 : R_OK, &node) : -EOPNOTSUPP;
 	if (fault)
 		return fault;
 	if (is_path) {
@@ -148,7 +154,7 @@ void attributes_get(fuse_req_t req, fuse_ino_t number, const char *name, size_t 
 	const char *value = NULL;
 	size_t size = 0;
 	engine_lock();
-	int fault = get(number, name, &value, &size);
+	int fault = get(req, number, name, &value, &size);
 	cleanup_free char *copy = fault == 0 && room >= size ? malloc(size + 1) : NULL;
 	if (copy)
 		memcpy(copy, value, size);
@@ -181,7 +187,7 @@ void attributes_remove(fuse_req_t req, fuse_ino_t number, const char *name)
 {
 	struct node node;
 	engine_lock();
-	int fault = is_users(name) ? find_node(number, &node) : -EOPNOTSUPP;
+	int fault = is_users(name) ? find_for(req, number, W_OK, &node) : -EOPNOTSUPP;
 	struct attribute **at = fault ? NULL : find(&node.group->attributes, node.file, name);
 	if (fault == 0 && !*at)
 		fault = -ENODATA;
@@ -191,7 +197,7 @@ void attributes_remove(fuse_req_t req, fuse_ino_t number, const char *name)
 	fuse_reply_err(req, -fault);
 }
 
-void attributes_forget(struct remembered *r)
+void attributes_forget(struct group_state *r)
 {
 	WANTS_LOCK();
 	while (r->attributes)

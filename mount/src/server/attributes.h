@@ -2,12 +2,8 @@
 #ifndef ATTRIBUTES_H
 #define ATTRIBUTES_H
 
-#include "remembered.h"
+#include "server/group_state.h"
 #include <fuse3/fuse_lowlevel.h>
-
-/* Under `run` each group has this attribute, which no list shows: the path of the group. A request by a descriptor looks up no
-   name. */
-extern const char attributes_path[];
 
 /* For libfuse. */
 void attributes_set(fuse_req_t req, fuse_ino_t number, const char *name, const char *value, size_t size, int flags);
@@ -16,6 +12,6 @@ void attributes_list(fuse_req_t req, fuse_ino_t number, size_t room);
 void attributes_remove(fuse_req_t req, fuse_ino_t number, const char *name);
 
 /* Wants the engine's lock. */
-void attributes_forget(struct remembered *r);
+void attributes_forget(struct group_state *r);
 
 #endif

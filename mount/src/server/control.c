@@ -1,13 +1,13 @@
-#include "control.h"
-#include "bounds.h"
-#include "engine.h"
-#include "freezer.h"
-#include "joined.h"
-#include "number.h"
-#include "operations.h"
-#include "spaces.h"
-#include "tables.h"
-#include "watch.h"
+#include "server/control.h"
+#include "common/bounds.h"
+#include "engine/engine.h"
+#include "engine/undo_steps.h"
+#include "server/cgroup_namespaces.h"
+#include "server/control_numbers.h"
+#include "server/freezer.h"
+#include "server/mount_tables.h"
+#include "server/operations.h"
+#include "server/watch.h"
 #include <errno.h>
 #include <limits.h>
 #include <stdio.h>
@@ -32,21 +32,41 @@ static const struct {
 	[EXIT] = { "exit", 0200, false },
 };
 
-/* The process of /.makhloeum.PID.SPACE, a file that exists under `run` and is not listed. It has the text of
-   /proc/PID/cgroup as a reader in that cgroup namespace sees it; for process 0, the root of that namespace. */
-static long where_of(const char *path)
+/* A file /.makhloeum.PID.SPACE, which exists under `run` and is not listed. It has the text of /proc/PID/cgroup as a reader in that
+   cgroup namespace sees it; for process 0, the root of that namespace. */
+struct where {
+	pid_t process;
+	unsigned space;
+};
+
+static bool find_where(const char *path, struct where *out)
 {
 	size_t n = sizeof control_directory - 1;
 	if (!look.marked || path[0] != '/' || strncmp(path + 1, control_directory, n) || path[n + 1] != '.')
-		return -1;
+		return false;
 	char *end;
 	const char *digits = "0123456789";
 	if (!strchr(digits, path[n + 2]) || !path[n + 2])
-		return -1;
+		return false;
 	unsigned long pid = strtoul(path + n + 2, &end, 10), space = 0;
 	if (*end == '.' && end[1] && strchr(digits, end[1]))
 		space = strtoul(end + 1, &end, 10);
-	return *end == 0 && pid < PIDS && space <= UINT_MAX ? (long)(space * PIDS + pid) : -1;
+	if (*end || pid >= PIDS || space > UINT_MAX)
+		return false;
+	*out = (struct where){ (pid_t)pid, (unsigned)space };
+	return true;
+}
+
+/* The kernel knows a file by one number, and here by nothing else. */
+static long number_of_where(struct where w)
+{
+	return CONTROL_WHERE + (long)w.space * PIDS + w.process;
+}
+
+static struct where where_of_number(long file)
+{
+	long number = file - CONTROL_WHERE;
+	return (struct where){ (pid_t)(number % PIDS), (unsigned)(number / PIDS) };
 }
 
 /* The number of a mount table; -1. */
@@ -57,10 +77,21 @@ static long table_of(const char *path)
 	return look.marked && sscanf(path, "/.makhloeum.t.%18ld%n", &number, &end) == 1 && !path[end] ? number : -1;
 }
 
+static bool is_context(const char *path)
+{
+	return look.marked && strcmp(path, "/.makhloeum.f") == 0;
+}
+
+static bool is_hidden(const char *path)
+{
+	return look.marked && strcmp(path, "/.makhloeum.d") == 0;
+}
+
 bool control_has(const char *path)
 {
+	struct where unused;
 	size_t n = sizeof control_directory - 1;
-	if (where_of(path) >= 0 || table_of(path) >= 0)
+	if (find_where(path, &unused) || table_of(path) >= 0 || is_context(path) || is_hidden(path))
 		return true;
 	if (look.marked && !look.history)
 		return false;
@@ -72,11 +103,20 @@ long control_find(const char *path)
 	const char *name = path + sizeof control_directory;
 	long table = table_of(path);
 	if (table >= 0) {
-		int fault = tables_find(table);
+		int fault = mount_tables_find(table);
 		return fault ? fault : CONTROL_TABLE + table;
 	}
-	if (where_of(path) >= 0)
-		return CONTROL_WHERE + where_of(path);
+	struct where where;
+	if (find_where(path, &where))
+		return number_of_where(where);
+	if (is_context(path))
+		return CONTROL_CONTEXT;
+	if (is_hidden(path)) { /* the helper finds it before the program runs, and nobody after that */
+		static bool was_found;
+		bool is_first = !was_found;
+		was_found = true;
+		return is_first ? CONTROL_HIDDEN : -ENOENT;
+	}
 	if (*name == 0)
 		return CONTROL_ITSELF;
 	for (int i = 0; i < CONTROL_FILES; i++)
@@ -97,20 +137,21 @@ bool control_is_there(long file)
 
 mode_t control_mode(long file)
 {
-	return file >= CONTROL_WHERE ? 0444 : files[file].mode;
+	if (file < CONTROL_FILES)
+		return files[file].mode;
+	return file == CONTROL_CONTEXT ? 0600 : 0444;
 }
 
 /* A process that no supervisor knows is in the root, like all others of the machine. */
-static int read_where(long which, int (*keep)(void *, const char *, size_t), void *to)
+static int read_where(struct where w, int (*keep)(void *, const char *, size_t), void *to)
 {
 	char group[PATH_MAX_SAID] = "/", seen[PATH_MAX_SAID], text[PATH_MAX_SAID + 8];
-	long pid = which % PIDS;
-	const char *root = spaces_root((unsigned)(which / PIDS));
-	int fault = pid ? engine_where(pid, group, sizeof group) : 0;
+	const char *root = cgroup_namespaces_root(w.space);
+	int fault = w.process ? engine_where(w.process, group, sizeof group) : 0;
 	if (fault == -ENOMEM)
 		return fault;
 	seen_from(root, group, seen);
-	int size = snprintf(text, sizeof text, "0::%s\n", pid ? seen : root);
+	int size = snprintf(text, sizeof text, "0::%s\n", w.process ? seen : root);
 	return keep(to, text, (size_t)size);
 }
 
@@ -129,16 +170,18 @@ int control_read(long file, int (*keep)(void *, const char *, size_t), void *to)
 	size_t depth;
 	WANTS_LOCK();
 	if (file >= CONTROL_TABLE)
-		return tables_read(file - CONTROL_TABLE, keep, to);
+		return mount_tables_read(file - CONTROL_TABLE, keep, to);
 	if (file >= CONTROL_WHERE)
-		return read_where(file - CONTROL_WHERE, keep, to);
+		return read_where(where_of_number(file), keep, to);
+	if (file == CONTROL_CONTEXT) /* there is no message about its mount */
+		return -ENODATA;
 	depth = engine_depth();
 	switch (file) {
 	case DEPTH:
-		snprintf(text, sizeof text, "%zu\n", joined_count(depth));
+		snprintf(text, sizeof text, "%zu\n", undo_steps_count(depth));
 		return keep(to, text, strlen(text));
 	case NEWEST:
-		return depth ? read_history(joined_newest(depth), keep, to) : keep(to, "", 0);
+		return depth ? read_history(undo_steps_newest(depth), keep, to) : keep(to, "", 0);
 	case TRACE:
 		return read_history(0, keep, to);
 	default:
@@ -146,36 +189,49 @@ int control_read(long file, int (*keep)(void *, const char *, size_t), void *to)
 	}
 }
 
+/* The words of a command, as the engine writes it: one blank between two of them, and a line feed at the end. */
+enum { WORDS = 4 };
+
+static void split(char *command, const char *words[WORDS])
+{
+	for (int i = 0; i < WORDS; i++) {
+		words[i] = command;
+		command += strcspn(command, " \n");
+		if (*command)
+			*command++ = 0;
+	}
+}
+
 /* Notifies those whom an undo concerns: `command` is the undone command. */
 static void tell_undone(const char *command, size_t size)
 {
-	char text[2 * PATH_MAX_SAID], group[PATH_MAX_SAID], file[64];
-	long pid = 0;
+	char text[2 * PATH_MAX_SAID];
+	const char *words[WORDS];
 	snprintf(text, sizeof text, "%.*s", (int)size, command);
-	if (sscanf(text, "mkdir %4095s", group) == 1)
-		remembered_lose(group);
-	else if (sscanf(text, "write %4095s %63s %ld", group, file, &pid) >= 2) {
-		if (strcmp(file, "cgroup.kill") == 0)
-			watch_below(group);
-		else if (strcmp(file, "cgroup.procs") == 0) {
-			watch_above(group);
-			watch_process((pid_t)pid);
-		}
-	} else if (sscanf(text, "fork %ld", &pid) == 1 || sscanf(text, "exit %ld", &pid) == 1)
-		watch_process((pid_t)pid);
+	split(text, words);
+	const char *verb = words[0], *group = words[1], *file = words[2], *value = words[3], *process = words[1];
+	if (strcmp(verb, "mkdir") == 0)
+		group_state_lose(group);
+	else if (strcmp(verb, "write") == 0 && strcmp(file, "cgroup.kill") == 0)
+		watch_below(group);
+	else if (strcmp(verb, "write") == 0 && strcmp(file, "cgroup.procs") == 0) {
+		watch_above(group);
+		watch_process((pid_t)strtol(value, NULL, 10));
+	} else if (strcmp(verb, "fork") == 0 || strcmp(verb, "exit") == 0)
+		watch_process((pid_t)strtol(process, NULL, 10));
 }
 
 /* Undoes the newest operation. If a line of it fails, what is left of it is the newest from now on. */
 static int undo_newest(void)
 {
 	int fault = 0;
-	for (size_t size, until = joined_newest(engine_depth()); fault == 0 && engine_depth() > until;) {
+	for (size_t size, until = undo_steps_newest(engine_depth()); fault == 0 && engine_depth() > until;) {
 		fault = engine_line("undo");
 		const char *command = engine_text(&size);
 		if (fault == 0)
 			tell_undone(command, size);
 	}
-	joined_cut(engine_depth());
+	undo_steps_cut(engine_depth());
 	freezer_undone();
 	return fault;
 }
@@ -184,7 +240,7 @@ static int undo_newest(void)
 static int undo(unsigned long count)
 {
 	int fault = 0;
-	if (count > joined_count(engine_depth()))
+	if (count > undo_steps_count(engine_depth()))
 		return -ENODATA;
 	while (count-- && fault == 0)
 		fault = undo_newest();
@@ -216,7 +272,7 @@ int control_write(long file, const char *data, size_t size)
 {
 	unsigned long said[2];
 	WANTS_LOCK();
-	int count = numbers_said(data, size, said, 2);
+	int count = control_numbers_read(data, size, said, 2);
 	if (file == UNDO && count >= 0 && count <= 1)
 		return undo(count ? said[0] : 1);
 	if (file == FORGET && count == 0)

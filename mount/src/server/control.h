@@ -9,17 +9,24 @@
 
 extern const char control_directory[]; /* its name, without a slash */
 
-/* Whether a path is the directory or below it. */
+/* Whether a path is the directory or below it, or one of the files that a run has beside it. */
 bool control_has(const char *path);
 enum { CONTROL_ITSELF = -1 };
-/* The number of the file at such a path; CONTROL_ITSELF for the directory; -ENOENT, and of a mount table -ENFILE or -ENOMEM. */
+/* The number of the file at such a path; CONTROL_ITSELF for the directory; -ENOENT, and of a mount table -ENFILE or -ENOMEM.
+   CONTROL_HIDDEN is found once. */
 long control_find(const char *path);
 enum { CONTROL_FILES = 7 };
 enum {
-	CONTROL_WHERE = CONTROL_FILES
-}; /* or the number of a process and of a cgroup namespace: /.makhloeum.PID.SPACE, under `run` */
+	/* under `run`: the directory /.makhloeum.d, which has what follows too. The helper finds it before the program runs, and nobody
+	   afterwards: so the program can't hold a lock of it, as it can one of the root, by a listing into memory that it holds back */
+	CONTROL_HIDDEN = CONTROL_FILES,
+	/* /.makhloeum.f, of which each open file is a mount that is being made (mount_contexts.h) */
+	CONTROL_CONTEXT,
+	/* or the number of a process and of a cgroup namespace: /.makhloeum.PID.SPACE */
+	CONTROL_WHERE
+};
 static const long CONTROL_TABLE =
-	1L << 56; /* or the number of a mount table (tables.h): /.makhloeum.t.NUMBER, under `run` */
+	1L << 56; /* or the number of a mount table (mount_tables.h): /.makhloeum.t.NUMBER, under `run` */
 const char *control_name(long file);
 bool control_is_there(long file);
 mode_t control_mode(long file);

@@ -1,11 +1,11 @@
 /* Listings of groups: the files of a group and the groups below it, each with its type and its inode number. */
-#include "cleanup.h"
-#include "control.h"
-#include "controllers.h"
-#include "engine.h"
-#include "nodes.h"
-#include "opened.h"
-#include "operations.h"
+#include "common/cleanup.h"
+#include "engine/engine.h"
+#include "server/control.h"
+#include "server/nodes.h"
+#include "server/open_files.h"
+#include "server/operations.h"
+#include "values/controllers.h"
 #include <errno.h>
 #include <linux/fuse.h>
 #include <stdlib.h>
@@ -38,7 +38,7 @@ static int put(struct entries *e, const char *name, const struct node *node)
 
 static int put_group(struct entries *e, const char *name, const char *path)
 {
-	const struct node node = { .group = remembered_make(path) };
+	const struct node node = { .group = group_state_make(path) };
 	return node.group ? put(e, name, &node) : -ENOMEM;
 }
 
@@ -92,7 +92,7 @@ static int collect(struct entries *e, const struct node *directory)
 }
 
 /* A listing is made when it is read from its start. What comes after that is the rest of it, whatever has changed. */
-static int begin(fuse_req_t req, uint64_t number, struct opened *o)
+static int begin(fuse_req_t req, uint64_t number, struct open_file *o)
 {
 	struct node directory;
 	struct entries e = { .req = req };
@@ -102,11 +102,11 @@ static int begin(fuse_req_t req, uint64_t number, struct opened *o)
 	if (fault == 0)
 		fault = collect(&e, &directory);
 	cleanup_free char *bytes = e.bytes;
-	return fault ? fault : opened_keep(o, bytes, e.size);
+	return fault ? fault : open_files_keep(o, bytes, e.size);
 }
 
 /* The first entry that begins at a place or after it. The place may be any, since a program can seek. */
-static size_t entry_from(const struct opened *o, size_t at)
+static size_t entry_from(const struct open_file *o, size_t at)
 {
 	size_t n = 0;
 	while (n < o->size && n < at)
@@ -115,7 +115,7 @@ static size_t entry_from(const struct opened *o, size_t at)
 }
 
 /* How many bytes whole entries have from there on, if that is all the room. */
-static size_t whole_entries(const struct opened *o, size_t from, size_t room)
+static size_t whole_entries(const struct open_file *o, size_t from, size_t room)
 {
 	size_t n = from;
 	while (n < o->size) {
@@ -127,21 +127,23 @@ static size_t whole_entries(const struct opened *o, size_t from, size_t room)
 	return n - from;
 }
 
-void listing_open(fuse_req_t req, fuse_ino_t number, struct fuse_file_info *fi)
+void directories_open(fuse_req_t req, fuse_ino_t number, struct fuse_file_info *fi)
 {
 	struct node node;
-	struct opened *o = NULL;
+	struct open_file *o = NULL;
 	engine_lock();
 	int fault = nodes_find(number, &node);
-	if (fault == 0 && !(o = opened_new(node.group && !node.group->gone ? node.group : NULL, NULL, A_DIRECTORY)))
+	if (fault == 0 && !node.group && node.control == CONTROL_HIDDEN)
+		fault = -EACCES; /* a superuser of a run may know its number */
+	if (fault == 0 && !(o = open_files_new(node.group && !node.group->gone ? node.group : NULL, NULL, A_DIRECTORY)))
 		fault = -ENOMEM;
 	engine_unlock();
-	opened_reply(req, fault, o, fi);
+	open_files_reply(req, fault, o, fi);
 }
 
-void listing_read(fuse_req_t req, fuse_ino_t number, size_t room, off_t at, struct fuse_file_info *fi)
+void directories_read(fuse_req_t req, fuse_ino_t number, size_t room, off_t at, struct fuse_file_info *fi)
 {
-	struct opened *o = opened_of(fi);
+	struct open_file *o = open_files_of(fi);
 	cleanup_free char *bytes = NULL;
 	engine_lock();
 	int fault = at == 0 ? begin(req, number, o) : 0;
@@ -158,7 +160,7 @@ void listing_read(fuse_req_t req, fuse_ino_t number, size_t room, off_t at, stru
 		fuse_reply_buf(req, bytes, size);
 }
 
-void listing_release(fuse_req_t req, fuse_ino_t number, struct fuse_file_info *fi)
+void directories_release(fuse_req_t req, fuse_ino_t number, struct fuse_file_info *fi)
 {
 	content_release(req, number, fi);
 }

@@ -1,27 +1,27 @@
-#include "freezer.h"
-#include "bounds.h"
-#include "engine.h"
-#include "listed.h"
-#include "number.h"
-#include "room.h"
-#include "watch.h"
+#include "server/freezer.h"
+#include "common/growing_array.h"
+#include "common/kernel.h"
+#include "engine/engine.h"
+#include "processes/members.h"
+#include "processes/process_table.h"
+#include "server/watch.h"
 #include <errno.h>
+#include <number_parser.h>
 #include <stdint.h>
 #include <stdio.h>
 #include <string.h>
 #include <sys/eventfd.h>
 #include <unistd.h>
 
-/* What is known of each process: whether it has to stop, whether it has stopped, and whether an order about it waits. */
+/* `freezing` of each process: whether it has to stop, whether it has stopped, and whether an order about it waits. */
 enum { WANTED = 1, STOPPED = 2, ORDERED = 4 };
-static unsigned char state[PIDS];
 
 static size_t freezing; /* groups in which 1 was written */
 static size_t wanted; /* processes that have to stop */
 static int supervisor = -1;
 
 /* A process has at most one order. So the list of all needs no memory, and an order is never lost for lack of it. */
-static pid_t next_order[PIDS], first_order, last_order;
+static pid_t first_order, last_order;
 
 static bool overdue; /* an undo could not be followed */
 
@@ -32,16 +32,11 @@ bool freezer_begin(int *wake)
 	return supervisor >= 0;
 }
 
-static bool in_range(pid_t pid)
-{
-	return pid > 0 && pid < PIDS;
-}
-
 /* ---------------------------------------------------------------- groups */
 
 static bool freezes_itself(const char *group)
 {
-	const struct remembered *r = freezing ? remembered_find(group) : NULL;
+	const struct group_state *r = freezing ? group_state_find(group) : NULL;
 	return r && r->freezes;
 }
 
@@ -59,7 +54,7 @@ static bool is_to_freeze(const char *group)
 static int runs(pid_t pid, const char *group)
 {
 	(void)group;
-	return !in_range(pid) || !(state[pid] & STOPPED);
+	return !is_pid(pid) || !(process_at(pid)->freezing & STOPPED);
 }
 
 /* 1, 0 or -errno */
@@ -67,7 +62,7 @@ static int is_frozen(const char *group)
 {
 	if (!is_to_freeze(group))
 		return 0;
-	int running = supervisor < 0 ? 0 : listed_each(group, false, runs);
+	int running = supervisor < 0 ? 0 : members_each(group, false, runs);
 	return running < 0 ? running : !running;
 }
 
@@ -97,26 +92,30 @@ int freezer_text(const char *group, const struct file *file, const char **text, 
 
 static void add_order(pid_t pid)
 {
-	if (state[pid] & ORDERED)
+	struct process *p = process_at(pid);
+	if (p->freezing & ORDERED)
 		return;
-	state[pid] |= ORDERED;
-	next_order[pid] = 0;
-	*(first_order ? &next_order[last_order] : &first_order) = pid;
+	p->freezing |= ORDERED;
+	p->next_order = 0;
+	*(first_order ? &process_at(last_order)->next_order : &first_order) = pid;
 	last_order = pid;
 }
 
 /* A process that does not have to stop has not stopped. */
 static void set_wanted(pid_t pid, bool stops)
 {
-	wanted -= !!(state[pid] & WANTED);
+	struct process *p = process_at(pid);
+	wanted -= !!(p->freezing & WANTED);
 	wanted += stops;
-	state[pid] &= stops ? (unsigned char)~0U : (unsigned char)~(WANTED | STOPPED);
-	state[pid] |= stops ? WANTED : 0;
+	if (stops)
+		p->freezing |= WANTED;
+	else
+		p->freezing &= (unsigned char)~(WANTED | STOPPED);
 }
 
 static void want(pid_t pid, bool to_freeze)
 {
-	if (!in_range(pid) || to_freeze == !!(state[pid] & WANTED))
+	if (!is_pid(pid) || to_freeze == !!(process_at(pid)->freezing & WANTED))
 		return;
 	add_order(pid);
 	set_wanted(pid, to_freeze);
@@ -135,10 +134,11 @@ bool freezer_order(pid_t *pid, bool *stop)
 	WANTS_LOCK();
 	if (!first_order)
 		return false;
+	struct process *p = process_at(first_order);
 	*pid = first_order;
-	first_order = next_order[*pid];
-	state[*pid] &= (unsigned char)~ORDERED;
-	*stop = state[*pid] & WANTED;
+	first_order = p->next_order;
+	p->freezing &= (unsigned char)~ORDERED;
+	*stop = p->freezing & WANTED;
 	return true;
 }
 
@@ -151,7 +151,7 @@ static size_t changes_count, changes_room;
 
 static int note(pid_t pid, const char *group)
 {
-	struct change *more = with_room(changes, changes_count + 1, &changes_room, sizeof *more);
+	struct change *more = growing_array_make_room(changes, changes_count + 1, &changes_room, sizeof *more);
 	if (!more)
 		return -ENOMEM;
 	changes = more;
@@ -165,7 +165,7 @@ static int order_all(const char *top)
 	if (supervisor < 0 || (!freezing && !wanted))
 		return 0;
 	changes_count = 0;
-	int fault = listed_each(top, false, note);
+	int fault = members_each(top, false, note);
 	if (fault)
 		return fault;
 	for (size_t i = 0; i < changes_count; i++)
@@ -197,7 +197,7 @@ void freezer_moved(pid_t pid, const char *group)
 
 /* ---------------------------------------------------------------- events */
 
-static void set(struct remembered *r, bool freezes)
+static void set(struct group_state *r, bool freezes)
 {
 	freezing += freezes;
 	freezing -= r->freezes;
@@ -208,8 +208,8 @@ int freezer_write(const char *group, const struct file *file, const char *data, 
 {
 	char said[SAID_MAX];
 	(void)file;
-	int fault = value_said(A_SWITCH, data, size, said);
-	struct remembered *r = fault ? NULL : remembered_make(group);
+	int fault = written_value(A_SWITCH, data, size, said);
+	struct group_state *r = fault ? NULL : group_state_make(group);
 	if (!r)
 		return fault ? fault : -ENOMEM;
 	bool freezes = said[0] == '1', differs = r->freezes != freezes;
@@ -221,7 +221,7 @@ int freezer_write(const char *group, const struct file *file, const char *data, 
 	return fault;
 }
 
-void freezer_forget(struct remembered *r)
+void freezer_forget(struct group_state *r)
 {
 	WANTS_LOCK();
 	set(r, false);
@@ -230,7 +230,7 @@ void freezer_forget(struct remembered *r)
 bool freezer_born(pid_t pid, const char *group)
 {
 	WANTS_LOCK();
-	if (!in_range(pid))
+	if (!is_pid(pid))
 		return false;
 	bool stops = is_to_freeze(group);
 	set_wanted(pid, false);
@@ -241,15 +241,16 @@ bool freezer_born(pid_t pid, const char *group)
 void freezer_gone(pid_t pid)
 {
 	WANTS_LOCK();
-	if (in_range(pid))
+	if (is_pid(pid))
 		set_wanted(pid, false);
 }
 
 void freezer_told(pid_t pid, bool stopped)
 {
 	WANTS_LOCK();
-	if (!in_range(pid) || (stopped && !(state[pid] & WANTED)))
+	struct process *p = is_pid(pid) ? process_at(pid) : NULL;
+	if (!p || (stopped && !(p->freezing & WANTED)))
 		return;
-	state[pid] = (unsigned char)(stopped ? state[pid] | STOPPED : state[pid] & ~STOPPED);
+	p->freezing = (unsigned char)(stopped ? p->freezing | STOPPED : p->freezing & ~STOPPED);
 	watch_process(pid);
 }

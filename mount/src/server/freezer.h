@@ -4,7 +4,7 @@
 #ifndef FREEZER_H
 #define FREEZER_H
 
-#include "remembered.h"
+#include "server/group_state.h"
 
 /* Under `run`: this eventfd wakes the supervisor when there are orders. False if it cannot be made. */
 bool freezer_begin(int *wake);
@@ -14,7 +14,7 @@ int freezer_show(const char *group, const struct file *file, char out[TEXT_ROOM]
 int freezer_write(const char *group, const struct file *file, const char *data, size_t size);
 /* The text of a file, with the current line `frozen`. 0, or -errno if that can't be known. */
 int freezer_text(const char *group, const struct file *file, const char **text, size_t size);
-void freezer_forget(struct remembered *r);
+void freezer_forget(struct group_state *r);
 
 /* A process is now in this group. */
 void freezer_moved(pid_t pid, const char *group);

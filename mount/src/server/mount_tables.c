@@ -1,62 +1,23 @@
-#include "tables.h"
-#include "cleanup.h"
-#include "control.h"
-#include "engine.h"
-#include "opened.h"
-#include "passing.h"
-#include "place.h"
-#include "space.h"
-#include "spaces.h"
+#include "server/mount_tables.h"
+#include "channels/table_channel.h"
+#include "common/cleanup.h"
+#include "common/group_paths.h"
+#include "engine/engine.h"
+#include "server/cgroup_namespaces.h"
+#include "server/control.h"
+#include "server/open_files.h"
 #include <errno.h>
 #include <poll.h>
-#include <pthread.h>
-#include <stdatomic.h>
 #include <stdio.h>
 #include <stdlib.h>
 #include <string.h>
 #include <sys/epoll.h>
-#include <sys/random.h>
 #include <sys/resource.h>
-#include <sys/socket.h>
 #include <unistd.h>
 
 /* UNOPENED: a table that was given and not opened is dropped when so many others were given after it. SHARE: the part of its
    descriptors that the server has for tables. */
-enum { LONG = 4096, TAKEN = 16, UNOPENED = 1024, SHARE = 4 };
-
-static int ends[2] = { -1, -1 };
-
-bool tables_begin(void)
-{
-	return socketpair(AF_UNIX, SOCK_SEQPACKET | SOCK_CLOEXEC, 0, ends) == 0;
-}
-
-void tables_be(int which)
-{
-	close(ends[1 - which]);
-	ends[1 - which] = -1;
-}
-
-int tables_socket(void)
-{
-	return ends[TABLES_HELPER];
-}
-
-enum { LOWER = 32, COUNTED = (1 << 26) - 1 };
-
-static long count_of(long number)
-{
-	return number >> LOWER;
-}
-
-long tables_number(void)
-{
-	static atomic_uint last;
-	unsigned unknown = 0;
-	long next = (long)(atomic_fetch_add(&last, 1) & COUNTED) + 1;
-	(void)!getrandom(&unknown, sizeof unknown, 0); /* it cannot fail: so few bytes are always there */
-	return (next << LOWER) + unknown;
-}
+enum { LONG = 4096, UNOPENED = 1024, SHARE = 4 };
 
 /* ---------------------------------------------------------------- which there are */
 
@@ -97,11 +58,12 @@ static void take_given(void)
 {
 	struct given_table given = { .number = 0 };
 	int fds[2];
-	while (passing_take(ends[TABLES_SERVER], &given, sizeof given, fds, 2, MSG_DONTWAIT)) {
+	while (table_channel_take(&given, fds)) {
 		bool room = has_room();
 		struct table *t = room ? malloc(sizeof *t) : NULL;
 		for (struct table **at = &all; *at;)
-			if ((*at)->opens == 0 && count_of((*at)->is.number) + UNOPENED < count_of(given.number))
+			if ((*at)->opens == 0 &&
+				table_channel_count_of((*at)->is.number) + UNOPENED < table_channel_count_of(given.number))
 				drop(at);
 			else
 				at = &(*at)->next;
@@ -137,14 +99,14 @@ static struct table *get(long number, int *fault)
 	return t;
 }
 
-int tables_find(long number)
+int mount_tables_find(long number)
 {
 	int fault;
 	get(number, &fault);
 	return fault;
 }
 
-int tables_open(long number)
+int mount_tables_open(long number)
 {
 	int fault;
 	struct table *t = get(number, &fault);
@@ -153,7 +115,7 @@ int tables_open(long number)
 	return fault;
 }
 
-void tables_close(long number)
+void mount_tables_close(long number)
 {
 	struct table **at = find(number);
 	WANTS_LOCK();
@@ -296,7 +258,7 @@ static int read_kernels(int file, char **out)
 	return n < 0 ? -errno : 0;
 }
 
-int tables_read(long number, int (*keep)(void *, const char *, size_t), void *to)
+int mount_tables_read(long number, int (*keep)(void *, const char *, size_t), void *to)
 {
 	cleanup_free char *kernels = NULL, *text = NULL;
 	size_t size = 0;
@@ -313,7 +275,7 @@ int tables_read(long number, int (*keep)(void *, const char *, size_t), void *to
 	const char *first = split(kernels, form);
 	for (char *line = kernels, *next; line < end; line = next) {
 		next = line + strlen(line) + 1; /* before the line is changed */
-		put_mount(out, line, form, spaces_root(t->is.space), first);
+		put_mount(out, line, form, cgroup_namespaces_root(t->is.space), first);
 	}
 	bool incomplete = ferror(out);
 	incomplete |= fclose(out) != 0;
@@ -323,54 +285,37 @@ int tables_read(long number, int (*keep)(void *, const char *, size_t), void *to
 
 /* ---------------------------------------------------------------- polls */
 
-/* Waits for changes of all tables that somebody has polled. */
-static void *listen_to_bells(void *unused)
+void mount_tables_ring_in(int set)
 {
-	struct epoll_event rung[TAKEN];
-	int n;
-	(void)unused;
-	while ((n = epoll_wait(bells, rung, TAKEN, -1)) >= 0 || errno == EINTR) {
-		engine_lock();
-		for (int i = 0; i < n && !ended; i++)
-			opened_wake_control(CONTROL_TABLE + (long)rung[i].data.u64);
-		engine_unlock();
-	}
-	return NULL;
+	bells = set;
 }
 
-static bool begin_listening(void)
+void mount_tables_ring(long number)
 {
-	pthread_t thread;
-	if (bells >= 0)
-		return true;
-	bells = epoll_create1(EPOLL_CLOEXEC);
-	if (bells >= 0 && pthread_create(&thread, NULL, listen_to_bells, NULL) == 0 && pthread_detach(thread) == 0)
-		return true;
-	close_at(&bells);
-	bells = -1;
-	return false;
+	WANTS_LOCK();
+	if (!ended)
+		open_files_wake_control(CONTROL_TABLE + number);
 }
 
-int tables_poll(long number, unsigned *told)
+int mount_tables_poll(long number, unsigned *told)
 {
 	int fault;
 	struct table *t = get(number, &fault);
 	if (!t)
 		return fault;
 	struct epoll_event changes = { .events = EPOLLPRI, .data.u64 = (uint64_t)number };
-	if (!t->rings && !begin_listening())
-		return -ENOMEM;
 	if (!t->rings && epoll_ctl(bells, EPOLL_CTL_ADD, t->bell, &changes) &&
 		errno != EPERM) /* mountstats has no changes */
 		return -ENOMEM;
 	t->rings = true;
+	/* after that: a change in between rings, and one before is seen here */
 	struct pollfd file = { .fd = t->file, .events = POLLIN | POLLRDNORM | POLLPRI };
 	poll(&file, 1, 0);
 	*told = (unsigned)file.revents;
 	return 0;
 }
 
-void tables_end(void)
+void mount_tables_end(void)
 {
 	engine_lock();
 	ended = true;

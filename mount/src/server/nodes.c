@@ -1,11 +1,12 @@
-#include "nodes.h"
-#include "control.h"
-#include "controllers.h"
-#include "engine.h"
+#include "server/nodes.h"
+#include "engine/engine.h"
+#include "server/control.h"
+#include "values/controllers.h"
 #include <errno.h>
 #include <stdio.h>
 #include <string.h>
 #include <sys/stat.h>
+#include <unistd.h>
 
 /* Beyond the numbers of any group. What is in the control directory has one number after the directory's. */
 static const uint64_t number_control = (uint64_t)1 << 62;
@@ -19,7 +20,7 @@ int nodes_find(uint64_t number, struct node *out)
 		return 0;
 	}
 	uint64_t within = (number - NUMBER_ROOT) % NUMBERS_OF_GROUP;
-	out->group = remembered_numbered(number - within);
+	out->group = group_state_numbered(number - within);
 	out->file = within ? file_in_place(within - 1) : NULL;
 	return out->group && (out->file || !within) ? 0 : -ENOENT;
 }
@@ -33,7 +34,7 @@ uint64_t nodes_number(const struct node *node)
 
 bool nodes_is_directory(const struct node *node)
 {
-	return node->group ? !node->file : node->control == CONTROL_ITSELF;
+	return node->group ? !node->file : node->control == CONTROL_ITSELF || node->control == CONTROL_HIDDEN;
 }
 
 mode_t nodes_mode(const struct node *node)
@@ -43,11 +44,20 @@ mode_t nodes_mode(const struct node *node)
 	return S_IFREG | (node->group ? file_mode(node->file) : control_mode(node->control));
 }
 
+int nodes_may(const struct node *node, int mask, uid_t uid)
+{
+	mode_t mode = nodes_mode(node);
+	if (uid == 0 || S_ISDIR(mode))
+		return 0;
+	return (mask & R_OK && !(mode & 0444)) || (mask & W_OK && !(mode & 0222)) ? -EACCES : 0;
+}
+
 int nodes_path(const struct node *directory, const char *name, char out[PATH_MAX_SAID])
 {
-	const char *above = directory->group ? directory->group->path : control_directory;
-	const char *from_root = directory->group ? "" : "/";
-	int n = snprintf(out, PATH_MAX_SAID, "%s%s/%s", from_root, is_root(above) ? "" : above, name);
+	bool is_control = !directory->group && directory->control == CONTROL_ITSELF;
+	const char *above = directory->group && !is_root(directory->group->path) ? directory->group->path : "";
+	int n = snprintf(out, PATH_MAX_SAID, "%s%s/%s", is_control ? "/" : "", is_control ? control_directory : above,
+		name);
 	return n < PATH_MAX_SAID ? 0 : -ENAMETOOLONG;
 }
 
@@ -62,11 +72,11 @@ static int find_control(const char *path, struct node *out)
 
 static int find_group(const char *path, struct node *out)
 {
-	struct remembered *r = remembered_find(path);
+	struct group_state *r = group_state_find(path);
 	int fault = r ? 0 : engine_has_group(path);
 	if (fault)
 		return fault;
-	*out = (struct node){ .group = r ? r : remembered_make(path) };
+	*out = (struct node){ .group = r ? r : group_state_make(path) };
 	return out->group ? 0 : -ENOMEM;
 }
 
@@ -81,7 +91,7 @@ int nodes_find_above(const struct node *node, struct node *out)
 		snprintf(path, sizeof path, "%s", node->group->path);
 	if (!node->file)
 		go_up(path);
-	out->group = remembered_make(path);
+	out->group = group_state_make(path);
 	return out->group ? 0 : -ENOMEM;
 }
 
@@ -110,7 +120,9 @@ int nodes_find_below(const struct node *directory, const char *name, struct node
 	int fault = nodes_path(directory, name, path);
 	if (fault)
 		return fault;
-	return !directory->group || control_has(path) ? find_control(path, out) : find_group(path, out);
+	if (control_has(path))
+		return find_control(path, out);
+	return directory->group ? find_group(path, out) : -ENOENT;
 }
 
 void nodes_known(const struct node *node)
@@ -127,5 +139,5 @@ void nodes_forget(uint64_t number, uint64_t count)
 	if (nodes_find(number, &node) || !node.group)
 		return;
 	node.group->known -= count;
-	remembered_tidy(node.group);
+	group_state_tidy(node.group);
 }

@@ -3,10 +3,10 @@
 #ifndef NODES_H
 #define NODES_H
 
-#include "remembered.h"
+#include "server/group_state.h"
 
 struct node {
-	struct remembered *group; /* NULL: the control directory, or something in it */
+	struct group_state *group; /* NULL: the control directory, or something in it */
 	const struct file *file; /* NULL: the group itself */
 	long control; /* of what is in the control directory (control.h) */
 };
@@ -23,6 +23,8 @@ int nodes_path(const struct node *directory, const char *name, char out[PATH_MAX
 bool nodes_is_directory(const struct node *node);
 /* The mode that decides what may be opened: owners and modes that programs set are only shown. */
 mode_t nodes_mode(const struct node *node);
+/* Whether this user may read or write it (R_OK, W_OK), by that mode: 0 or -EACCES. */
+int nodes_may(const struct node *node, int mask, uid_t uid);
 /* The kernel looked it up; and forgot some of its look-ups. */
 void nodes_known(const struct node *node);
 void nodes_forget(uint64_t number, uint64_t count);

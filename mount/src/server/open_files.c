@@ -1,23 +1,23 @@
-#include "opened.h"
-#include "control.h"
-#include "engine.h"
-#include "tables.h"
+#include "server/open_files.h"
+#include "engine/engine.h"
+#include "server/control.h"
+#include "server/mount_tables.h"
 #include <errno.h>
 #include <poll.h>
 #include <stdlib.h>
 #include <string.h>
 
 /* Those of the control directory, and those whose group was removed or has lost the file's controller. */
-static struct opened *alone;
+static struct open_file *alone;
 
-static struct opened **list_of(struct remembered *group)
+static struct open_file **list_of(struct group_state *group)
 {
-	return group ? &group->opened : &alone;
+	return group ? &group->open_files : &alone;
 }
 
-static void enter(struct opened *o, struct remembered *group)
+static void enter(struct open_file *o, struct group_state *group)
 {
-	struct opened **list = list_of(group);
+	struct open_file **list = list_of(group);
 	o->of = group;
 	o->before = NULL;
 	o->next = *list;
@@ -26,7 +26,7 @@ static void enter(struct opened *o, struct remembered *group)
 	*list = o;
 }
 
-static void leave(struct opened *o)
+static void leave(struct open_file *o)
 {
 	if (o->next)
 		o->next->before = o->before;
@@ -36,10 +36,10 @@ static void leave(struct opened *o)
 		*list_of(o->of) = o->next;
 }
 
-struct opened *opened_new(struct remembered *group, const struct file *file, long control)
+struct open_file *open_files_new(struct group_state *group, const struct file *file, long control)
 {
 	WANTS_LOCK();
-	struct opened *o = calloc(1, sizeof *o);
+	struct open_file *o = calloc(1, sizeof *o);
 	if (!o)
 		return NULL;
 	o->file = file;
@@ -49,30 +49,31 @@ struct opened *opened_new(struct remembered *group, const struct file *file, lon
 	return o;
 }
 
-struct opened *opened_of(const struct fuse_file_info *fi)
+struct open_file *open_files_of(const struct fuse_file_info *fi)
 {
-	return (struct opened *)(uintptr_t)fi->fh;
+	return (struct open_file *)(uintptr_t)fi->fh;
 }
 
-void opened_reply(fuse_req_t req, int fault, struct opened *o, struct fuse_file_info *fi)
+void open_files_reply(fuse_req_t req, int fault, struct open_file *o, struct fuse_file_info *fi)
 {
 	fi->fh = (uintptr_t)o;
 	if (fault) {
 		fuse_reply_err(req, -fault);
-	} else if (fuse_reply_open(req, fi) == -ENOENT) {
+	} else if (fuse_reply_open(req, fi) == -ENOENT) { /* the caller was interrupted, and the kernel closes nothing */
 		engine_lock();
-		opened_free(o);
+		open_files_free(o);
 		engine_unlock();
 	}
 }
 
-bool opened_is_gone(const struct opened *o)
+bool open_files_is_gone(const struct open_file *o)
 {
 	WANTS_LOCK();
 	return !o->of;
 }
 
-static void wake(struct opened *o)
+/* With the lock: the message to the kernel waits for nobody. The kernel asks again (open_files_poll) before it is told again. */
+static void wake(struct open_file *o)
 {
 	o->changed = true;
 	if (!o->waiting)
@@ -82,26 +83,26 @@ static void wake(struct opened *o)
 	o->waiting = NULL;
 }
 
-static void lose(struct opened *o)
+static void lose(struct open_file *o)
 {
 	leave(o);
 	enter(o, NULL);
 	wake(o);
 }
 
-void opened_free(struct opened *o)
+void open_files_free(struct open_file *o)
 {
 	WANTS_LOCK();
 	if (o->waiting)
 		fuse_pollhandle_destroy(o->waiting);
 	if (!o->file && o->control >= CONTROL_TABLE)
-		tables_close(o->control - CONTROL_TABLE);
+		mount_tables_close(o->control - CONTROL_TABLE);
 	leave(o);
 	free(o->text);
 	free(o);
 }
 
-int opened_keep(struct opened *o, const char *text, size_t size)
+int open_files_keep(struct open_file *o, const char *text, size_t size)
 {
 	WANTS_LOCK();
 	char *copy = malloc(size + 1);
@@ -116,13 +117,13 @@ int opened_keep(struct opened *o, const char *text, size_t size)
 }
 
 /* A read that begins where the last one ended continues the earlier text; any other gets the current text. */
-bool opened_goes_on(const struct opened *o, off_t at)
+bool open_files_goes_on(const struct open_file *o, off_t at)
 {
 	WANTS_LOCK();
 	return at != 0 && o->text && at == o->read_to;
 }
 
-size_t opened_has(const struct opened *o, size_t size, off_t at)
+size_t open_files_has(const struct open_file *o, size_t size, off_t at)
 {
 	WANTS_LOCK();
 	if (at < 0 || (size_t)at >= o->size)
@@ -130,7 +131,7 @@ size_t opened_has(const struct opened *o, size_t size, off_t at)
 	return size < o->size - (size_t)at ? size : o->size - (size_t)at;
 }
 
-void opened_read(struct opened *o, char *out, size_t size, off_t at)
+void open_files_read(struct open_file *o, char *out, size_t size, off_t at)
 {
 	WANTS_LOCK();
 	if (size)
@@ -138,7 +139,7 @@ void opened_read(struct opened *o, char *out, size_t size, off_t at)
 	o->read_to = at + (off_t)size;
 }
 
-unsigned opened_poll(struct opened *o, struct fuse_pollhandle *waiter)
+unsigned open_files_poll(struct open_file *o, struct fuse_pollhandle *waiter)
 {
 	WANTS_LOCK();
 	if (waiter) {
@@ -149,35 +150,35 @@ unsigned opened_poll(struct opened *o, struct fuse_pollhandle *waiter)
 	return POLLIN | POLLOUT | POLLRDNORM | POLLWRNORM | (o->changed || !o->of ? POLLERR | POLLPRI : 0);
 }
 
-void opened_wake(const struct remembered *r, const struct file *file)
+void open_files_wake(const struct group_state *r, const struct file *file)
 {
 	WANTS_LOCK();
-	for (struct opened *o = r->opened; o; o = o->next)
+	for (struct open_file *o = r->open_files; o; o = o->next)
 		if (o->file == file)
 			wake(o);
 }
 
-void opened_wake_control(long control)
+void open_files_wake_control(long control)
 {
-	const struct remembered *root = remembered_find("/");
-	for (struct opened *o = root ? root->opened : NULL; o; o = o->next)
+	const struct group_state *root = group_state_find("/");
+	for (struct open_file *o = root ? root->open_files : NULL; o; o = o->next)
 		if (!o->file && o->control == control)
 			wake(o);
 }
 
-void opened_lose_files(struct remembered *r, unsigned controllers)
+void open_files_lose_files(struct group_state *r, unsigned controllers)
 {
 	WANTS_LOCK();
-	for (struct opened *o = r->opened, *next; o; o = next) {
+	for (struct open_file *o = r->open_files, *next; o; o = next) {
 		next = o->next;
 		if (o->file && o->file->controller & controllers)
 			lose(o);
 	}
 }
 
-void opened_lose(struct remembered *r)
+void open_files_lose(struct group_state *r)
 {
 	WANTS_LOCK();
-	while (r->opened)
-		lose(r->opened);
+	while (r->open_files)
+		lose(r->open_files);
 }

@@ -1,17 +1,15 @@
 /* The table for libfuse, and the operations that a cgroup file system refuses. */
-#include "operations.h"
-#include "attributes.h"
-#include "bounds.h"
-#include "watch.h"
+#include "server/operations.h"
+#include "common/bounds.h"
+#include "companion/companion.h"
+#include "server/attributes.h"
 #include <errno.h>
-#include <stdint.h>
 #include <sys/statvfs.h>
 
 static void start(void *unused, struct fuse_conn_info *connection)
 {
 	(void)unused;
 	connection->want |= connection->capable & FUSE_CAP_EXPORT_SUPPORT; /* look-ups of . and .. (nodes.h) */
-	watch_run();
 }
 
 static void statfs_group(fuse_req_t req, fuse_ino_t number)
@@ -77,9 +75,9 @@ const struct fuse_lowlevel_ops operations = {
 	.setattr = tree_setattr,
 	.mkdir = tree_mkdir,
 	.rmdir = tree_rmdir,
-	.opendir = listing_open,
-	.readdir = listing_read,
-	.releasedir = listing_release,
+	.opendir = directories_open,
+	.readdir = directories_read,
+	.releasedir = directories_release,
 	.fsyncdir = no_fsync,
 	.access = content_access,
 	.open = content_open,

@@ -11,16 +11,13 @@
 struct look {
 	bool history; /* the control directory is listed, and has the files of a history */
 	bool marked; /* statfs carries a mark by which the supervisor knows this file system */
+	bool no_threads; /* a thread of a run has no number in the hierarchy */
 	uid_t uid;
 	gid_t gid;
 	struct timespec born; /* at each notification */
 };
 extern struct look look;
 extern const struct fuse_lowlevel_ops operations;
-
-/* The mark: a number of free files that no file system has; and a time of modification, before 1970, whose setting the server
-   leaves out. The companion sets it so that inotify reports a change (companion.c). */
-enum { MARK = 0x6d6b6872 };
 
 /* Groups and files (tree.c) */
 void tree_lookup(fuse_req_t req, fuse_ino_t parent, const char *name);
@@ -31,10 +28,10 @@ void tree_setattr(fuse_req_t req, fuse_ino_t number, struct stat *st, int fields
 void tree_mkdir(fuse_req_t req, fuse_ino_t parent, const char *name, mode_t mode);
 void tree_rmdir(fuse_req_t req, fuse_ino_t parent, const char *name);
 
-/* Listings (listing.c) */
-void listing_open(fuse_req_t req, fuse_ino_t number, struct fuse_file_info *fi);
-void listing_read(fuse_req_t req, fuse_ino_t number, size_t size, off_t at, struct fuse_file_info *fi);
-void listing_release(fuse_req_t req, fuse_ino_t number, struct fuse_file_info *fi);
+/* Listings (directories.c) */
+void directories_open(fuse_req_t req, fuse_ino_t number, struct fuse_file_info *fi);
+void directories_read(fuse_req_t req, fuse_ino_t number, size_t size, off_t at, struct fuse_file_info *fi);
+void directories_release(fuse_req_t req, fuse_ino_t number, struct fuse_file_info *fi);
 
 /* Files (content.c) */
 void content_access(fuse_req_t req, fuse_ino_t number, int mask);

@@ -1,17 +1,17 @@
-#include "owner.h"
-#include "engine.h"
-#include "operations.h"
+#include "server/owner.h"
+#include "engine/engine.h"
+#include "server/operations.h"
 #include <errno.h>
 #include <stdlib.h>
 
-/* What was set for a file. */
+/* What was set for a file. Until then a file has the owner and the times that its group began with, and a mode of its own. */
 struct owned {
 	struct owned *next;
 	const struct file *file;
-	struct shown shown;
+	struct inode_fields fields;
 };
 
-static struct owned *find(const struct remembered *r, const struct file *file)
+static struct owned *find(const struct group_state *r, const struct file *file)
 {
 	struct owned *o = r->owned;
 	while (o && o->file != file)
@@ -26,34 +26,34 @@ static struct timespec now(void)
 	return t;
 }
 
-void owner_begin(struct remembered *r, const struct shown *maker)
+void owner_begin(struct group_state *r, const struct inode_fields *maker)
 {
 	WANTS_LOCK();
-	r->itself = maker ? *maker : (struct shown){ .mode = 0755, .uid = look.uid, .gid = look.gid };
+	r->itself = maker ? *maker : (struct inode_fields){ .mode = 0755, .uid = look.uid, .gid = look.gid };
 	r->itself.accessed = r->itself.modified = r->itself.changed = now();
 	r->at_first = r->itself;
 }
 
-static struct shown of_file(const struct remembered *r, const struct file *file)
+static struct inode_fields of_file(const struct group_state *r, const struct file *file)
 {
 	const struct owned *o = find(r, file);
-	struct shown shown = o ? o->shown : r->at_first;
+	struct inode_fields fields = o ? o->fields : r->at_first;
 	if (!o)
-		shown.mode = file_mode(file);
-	return shown;
+		fields.mode = file_mode(file);
+	return fields;
 }
 
-static struct shown of_control(const struct node *node)
+static struct inode_fields of_control(const struct node *node)
 {
-	return (struct shown){ nodes_mode(node) & 07777, look.uid, look.gid, look.born, look.born, look.born };
+	return (struct inode_fields){ nodes_mode(node) & 07777, look.uid, look.gid, look.born, look.born, look.born };
 }
 
 void owner_apply(const struct node *node, struct stat *st)
 {
 	WANTS_LOCK();
-	const struct shown s = !node->group ? of_control(node)
-		: node->file                    ? of_file(node->group, node->file)
-										: node->group->itself;
+	const struct inode_fields s = !node->group ? of_control(node)
+		: node->file                           ? of_file(node->group, node->file)
+											   : node->group->itself;
 	st->st_mode = (nodes_mode(node) & S_IFMT) | s.mode;
 	st->st_uid = s.uid;
 	st->st_gid = s.gid;
@@ -69,22 +69,22 @@ void owner_apply(const struct node *node, struct stat *st)
 #endif
 
 /* Where it is stored; NULL: out of memory. */
-static struct shown *stored(const struct node *node)
+static struct inode_fields *stored(const struct node *node)
 {
-	struct remembered *r = node->group;
+	struct group_state *r = node->group;
 	struct owned *o = node->file ? find(r, node->file) : NULL;
 	if (!node->file)
 		return &r->itself;
 	if (o)
-		return &o->shown;
+		return &o->fields;
 	o = calloc(1, sizeof *o);
 	if (!o)
 		return NULL;
 	o->file = node->file;
-	o->shown = of_file(r, node->file);
+	o->fields = of_file(r, node->file);
 	o->next = r->owned;
 	r->owned = o;
-	return &r->owned->shown;
+	return &r->owned->fields;
 }
 #ifndef __clang__
 #pragma GCC diagnostic pop
@@ -93,7 +93,7 @@ static struct shown *stored(const struct node *node)
 int owner_set(const struct node *node, const struct stat *st, int fields)
 {
 	WANTS_LOCK();
-	struct shown *s = stored(node);
+	struct inode_fields *s = stored(node);
 	if (!s)
 		return -ENOMEM;
 	s->changed = now();
@@ -110,13 +110,13 @@ int owner_set(const struct node *node, const struct stat *st, int fields)
 	return 0;
 }
 
-void owner_touch(struct remembered *r)
+void owner_touch(struct group_state *r)
 {
 	WANTS_LOCK();
 	r->itself.modified = r->itself.changed = now();
 }
 
-void owner_forget(struct remembered *r)
+void owner_forget(struct group_state *r)
 {
 	WANTS_LOCK();
 	while (r->owned) {

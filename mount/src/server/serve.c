@@ -1,28 +1,19 @@
-/* Which processes may block on what.
-
-   A thread of the server waits for its next request, for the engine's lock, and for a write to the files of --trace and
-   --answers. Whoever holds the lock waits for these writes and for nothing else: it looks up no path (what the machine has is
-   read before: machine.c; the helper opens mount tables: tables.h), and makes no request to its own mount, which only these
-   threads answer. A look-up that a request
-   needs comes before the lock. (With --adopt, where no supervisor waits for the server, the lock is held while /proc is read.)
-   The thread that tells the companion about changes waits for it, without the lock, and ends when the server ends.
-   For the processes of a run see tracer.c. */
-#include "serve.h"
-#include "controllers.h"
-#include "engine.h"
-#include "machine.h"
-#include "operations.h"
-#include "real.h"
-#include "remembered.h"
-#include "tables.h"
-#include "watch.h"
+#include "server/serve.h"
+#include "common/message.h"
+#include "engine/engine.h"
+#include "processes/host_processes.h"
+#include "server/group_state.h"
+#include "server/mount_tables.h"
+#include "server/operations.h"
+#include "server/watch.h"
+#include "values/controllers.h"
+#include "values/machine.h"
 #include <errno.h>
 #include <fcntl.h>
 #include <fuse3/fuse_log.h>
 #include <fuse3/fuse_lowlevel.h>
 #include <limits.h>
 #include <signal.h>
-#include <stdarg.h>
 #include <stdatomic.h>
 #include <stdio.h>
 #include <stdlib.h>
@@ -34,31 +25,21 @@
 
 enum { REFUSED = 2 };
 
-void say(const char *format, ...)
-{
-	va_list words;
-	fprintf(stderr, "makhloeum: ");
-	va_start(words, format);
-	vfprintf(stderr, format, words);
-	va_end(words);
-	fprintf(stderr, "\n");
-}
-
-static struct kept trace, answers;
+static struct trace_file trace, answers;
 
 /* Nothing is changed before everything was found right. */
-static bool open_kept(const struct wishes *wishes)
+static bool open_trace_files(const struct wishes *wishes)
 {
-	bool right = kept_open(&trace, wishes->trace);
-	right = kept_open(&answers, right ? wishes->answers : NULL) && right;
-	if (right && kept_is_same(&trace, &answers)) {
+	bool right = trace_file_open(&trace, wishes->trace);
+	right = trace_file_open(&answers, right ? wishes->answers : NULL) && right;
+	if (right && trace_file_is_same(&trace, &answers)) {
 		say("--trace and --answers are the same file");
 		right = false;
 	}
-	if (right && kept_begin(&trace) && kept_begin(&answers))
+	if (right && trace_file_begin(&trace) && trace_file_begin(&answers))
 		return true;
-	kept_abandon(&trace);
-	kept_abandon(&answers);
+	trace_file_abandon(&trace);
+	trace_file_abandon(&answers);
 	return false;
 }
 
@@ -72,7 +53,7 @@ bool serve_prepare(const struct wishes *wishes)
 		say("out of memory");
 		return false;
 	}
-	if (!open_kept(wishes))
+	if (!open_trace_files(wishes))
 		return false;
 	if (!engine_start(&trace, &answers, wishes->control)) {
 		say("out of memory");
@@ -80,7 +61,7 @@ bool serve_prepare(const struct wishes *wishes)
 	}
 	if (wishes->extra || wishes->keep)
 		files_use_extra();
-	if (wishes->adopt && !real_adopt_all()) {
+	if (wishes->adopt && !host_processes_adopt_all()) {
 		say("processes cannot be watched here: %s", strerror(errno));
 		return false;
 	}
@@ -100,6 +81,16 @@ static struct fuse_session *make_session(void)
 	return session;
 }
 
+/* Until its first answer nobody can use the mount, and an answer that cannot be written is none. */
+static atomic_bool has_begun;
+static void (*when_ready)(void);
+
+static void begin(void)
+{
+	if (!atomic_load(&has_begun) && !atomic_exchange(&has_begun, true))
+		when_ready();
+}
+
 /* A read from an unmounted connection fails with ENODEV, or with ECONNABORTED if a request was still pending. At ENODEV
    libfuse ends its loop quietly; at any other errno it prints a message and returns an error. */
 #if FUSE_VERSION >= FUSE_MAKE_VERSION(3, 14)
@@ -112,46 +103,66 @@ static ssize_t read_request(int from, void *request, size_t size, void *unused)
 	return n;
 }
 
+static struct fuse_session *own_session;
+static int write_fault;
+
 static ssize_t write_reply(int to, struct iovec *reply, int parts, void *unused)
 {
 	(void)unused;
-	return writev(to, reply, parts);
+	ssize_t n = writev(to, reply, parts);
+	if (n >= 0)
+		begin();
+	else if (!atomic_load(&has_begun)) { /* one thread answers the first request, and nobody sends another before */
+		write_fault = errno;
+		fuse_session_exit(own_session);
+	}
+	return n;
 }
 
 static bool use_own_io(struct fuse_session *session)
 {
+	own_session = session;
 	static const struct fuse_custom_io io = { .read = read_request, .writev = write_reply };
 	return fuse_session_custom_io(session, &io, fuse_session_fd(session)) == 0;
 }
 #else
 /* There is no such hook in older libraries: the message may still be printed, but the status is the same. */
+static int write_fault;
+
 static bool use_own_io(struct fuse_session *session)
 {
+	begin();
 	return session != NULL;
 }
 #endif
 
-/* If no more threads can be made, libfuse says so for each that it wants, and continues with those that it has. */
+/* A run has one thread for requests: each thread leaves the program less of RLIMIT_NPROC, and operations wait for one lock and never
+   for the program. A mount has as many as there are requests at a time, and keeps them. (Without a configuration, libfuse 3.14 leaks
+   its own.) */
+static int answer_requests(struct fuse_session *session)
+{
+	struct fuse_loop_config config = { .max_idle_threads = 10 };
+	return look.marked ? fuse_session_loop(session) : fuse_session_loop_mt(session, &config);
+}
+
+/* If no more threads can be made, libfuse says so for each that it wants, and continues with those that it has. Why it cannot begin,
+   `serve` says. */
 static void say_for_fuse(enum fuse_log_level level, const char *format, va_list words)
 {
-	static atomic_flag said = ATOMIC_FLAG_INIT;
 	(void)level;
-	if (strstr(format, "error creating thread") && atomic_flag_test_and_set(&said))
+	if (!atomic_load(&has_begun) || strstr(format, "error creating thread"))
 		return;
 	vfprintf(stderr, format, words);
 }
 
 /* Answers until it is unmounted, or cannot begin to. */
-static int answer(struct fuse_session *session, void (*ready)(void))
+static int answer(struct fuse_session *session)
 {
 	fuse_set_log_func(say_for_fuse);
-	if (!use_own_io(session) || fuse_set_signal_handlers(session)) {
-		say("the file system cannot be served: %s", strerror(errno));
+	errno = EAGAIN; /* libfuse does not say why it has no thread */
+	if (!use_own_io(session) || fuse_set_signal_handlers(session))
 		return -EIO;
-	}
-	ready();
-	struct fuse_loop_config config = { .max_idle_threads = 10 }; /* without one, libfuse 3.14 leaks its own */
-	int ended = fuse_session_loop_mt(session, &config);
+	int ended = answer_requests(session);
 	fuse_remove_signal_handlers(session);
 	return ended;
 }
@@ -160,7 +171,7 @@ static int answer(struct fuse_session *session, void (*ready)(void))
 static bool make_root(void)
 {
 	engine_lock();
-	bool made = remembered_make("/") != NULL;
+	bool made = group_state_make("/") != NULL;
 	engine_unlock();
 	return made;
 }
@@ -180,13 +191,18 @@ int serve(const char *where, void (*ready)(void))
 	}
 	if (!look.marked)
 		watch_mounted(where);
-	int ended = answer(session, ready);
+	when_ready = ready;
+	int ended = answer(session), fault = errno;
 	watch_stop();
-	tables_end();
+	mount_tables_end();
 	fuse_session_unmount(session);
 	fuse_session_destroy(session);
 	engine_end();
-	return ended < 0 && ended != -ECONNABORTED ? 1 : 0;
+	bool failed = write_fault || (ended < 0 && ended != -ECONNABORTED);
+	if (!failed || atomic_load(&has_begun))
+		return failed;
+	say("the file system cannot be served: %s", strerror(write_fault ? write_fault : fault));
+	return REFUSED;
 }
 
 /* ---------------------------------------------------------------- makhloeum mount */
@@ -216,11 +232,23 @@ static int wait_for(pid_t server, int from)
 {
 	char status;
 	int ended = 0;
-	if (read(from, &status, 1) == 1)
+	if (read(from, &status, 1) == 1) /* else the server has ended, and its end of the pipe with it */
 		return 0;
 	while (waitpid(server, &ended, 0) < 0 && errno == EINTR)
 		;
-	return WIFEXITED(ended) && WEXITSTATUS(ended) ? WEXITSTATUS(ended) : 1;
+	if (WIFEXITED(ended) && WEXITSTATUS(ended) == REFUSED)
+		return REFUSED; /* it has said why */
+	say("the server of the mount has ended before the mount was in place");
+	return 1;
+}
+
+/* A caller's blocked signals would keep a server that was sent one from ending. */
+static void unblock_signals(void)
+{
+	sigset_t none;
+	/* neither can fail */
+	sigemptyset(&none);
+	sigprocmask(SIG_SETMASK, &none, NULL);
 }
 
 int mount_directory(const char *directory, const struct wishes *wishes)
@@ -228,6 +256,7 @@ int mount_directory(const char *directory, const struct wishes *wishes)
 	char whole[PATH_MAX];
 	struct stat st;
 	int ends[2] = { -1, -1 };
+	unblock_signals();
 	signal(SIGCHLD, SIG_DFL); /* a caller that ignores it would keep its status from who waits for a child */
 	if (!realpath(directory, whole) || stat(whole, &st)) {
 		say("%s: %s", directory, strerror(errno));
@@ -242,11 +271,11 @@ int mount_directory(const char *directory, const struct wishes *wishes)
 		return REFUSED;
 	}
 	if (!wishes->foreground) {
-		if (pipe2(ends, O_CLOEXEC))
-			return 1;
-		pid_t server = fork();
-		if (server < 0)
-			return 1;
+		pid_t server = pipe2(ends, O_CLOEXEC) ? -1 : fork();
+		if (server < 0) {
+			say("a process cannot be started: %s", strerror(errno));
+			return REFUSED;
+		}
 		if (server > 0) {
 			close(ends[1]);
 			return wait_for(server, ends[0]);
@@ -259,9 +288,11 @@ int mount_directory(const char *directory, const struct wishes *wishes)
 		return REFUSED;
 	if (!watch_begin(whole, -1)) {
 		say("a process cannot be started: %s", strerror(errno));
-		return 1;
+		return REFUSED;
 	}
-	if (chdir("/proc") && chdir("/"))
-		return 1;
+	if (chdir("/proc") && chdir("/")) {
+		say("/ cannot be entered: %s", strerror(errno));
+		return REFUSED;
+	}
 	return serve(whole, tell_starter);
 }

@@ -1,8 +1,8 @@
-#include "texts.h"
-#include "engine.h"
-#include "freezer.h"
-#include "shown.h"
-#include "values.h"
+#include "server/texts.h"
+#include "engine/engine.h"
+#include "processes/visible_processes.h"
+#include "server/freezer.h"
+#include "values/values.h"
 #include <string.h>
 
 int texts_read(const char *group, const struct file *file, bool keeps, const char **text, size_t *size)
@@ -24,6 +24,6 @@ int texts_read(const char *group, const struct file *file, bool keeps, const cha
 	if (fault)
 		return fault;
 	*text = engine_text(size);
-	fault = shown_text(group, file, text, size);
+	fault = visible_processes_text(group, file, text, size);
 	return fault ? fault : freezer_text(group, file, text, *size);
 }

@@ -2,7 +2,7 @@
 #ifndef TEXTS_H
 #define TEXTS_H
 
-#include "files.h"
+#include "values/files.h"
 
 /* Requires the engine's lock. 0 or -errno, and the text, which is valid until the next call. If it is the engine's, and
    `keeps`, the line is kept. */

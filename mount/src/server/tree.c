@@ -1,12 +1,13 @@
-#include "control.h"
-#include "controllers.h"
-#include "engine.h"
-#include "operations.h"
-#include "owner.h"
-#include "real.h"
-#include "reported.h"
-#include "texts.h"
-#include "watch.h"
+#include "companion/companion.h"
+#include "engine/engine.h"
+#include "processes/host_processes.h"
+#include "processes/run_processes.h"
+#include "server/control.h"
+#include "server/operations.h"
+#include "server/owner.h"
+#include "server/texts.h"
+#include "server/watch.h"
+#include "values/controllers.h"
 #include <errno.h>
 #include <string.h>
 
@@ -27,7 +28,7 @@ static int control_stat(const struct node *node, struct stat *st)
 	return fault == -ENOMEM ? fault : 0;
 }
 
-static int group_stat(const struct remembered *group, struct stat *st)
+static int group_stat(const struct group_state *group, struct stat *st)
 {
 	const char *names;
 	size_t count = 0;
@@ -43,7 +44,7 @@ static int file_stat(const struct node *node, struct stat *st)
 	size_t size = 0;
 	if (node->group->gone || !controllers_have(node->group->path, node->file))
 		return 0;
-	int fault = real_sweep();
+	int fault = host_processes_sweep();
 	if (fault == 0 && node->file->readable)
 		fault = texts_read(node->group->path, node->file, false, &text, &size);
 	st->st_size = (off_t)size;
@@ -111,7 +112,7 @@ void tree_setattr(fuse_req_t req, fuse_ino_t number, struct stat *st, int fields
 	engine_lock();
 	int fault = nodes_find(number, &node);
 	if (fault == 0)
-		fault = stat_of(&node, &after);
+		fault = stat_of(&node, &after); /* before anything is set: this may find no memory */
 	if (fault == 0)
 		fault = set(&node, st, fields, fi != NULL, fuse_req_ctx(req)->uid);
 	if (fault == 0)
@@ -147,7 +148,7 @@ static int look_up(uint64_t parent, const char *name, struct fuse_entry_param *e
 	if (fault)
 		return fault;
 	entry->ino = entry->attr.st_ino;
-	nodes_known(&node);
+	nodes_known(&node); /* last: the kernel forgets only what it was told */
 	return 0;
 }
 
@@ -191,27 +192,27 @@ static int path_in(uint64_t parent, const char *name, struct node *directory, ch
 }
 
 /* All memory is taken before the engine makes the group. */
-static int make_group(const char *path, const struct shown *maker, struct node *out)
+static int make_group(const char *path, const struct inode_fields *maker, struct node *out)
 {
-	bool was_there = remembered_find(path) != NULL;
-	*out = (struct node){ .group = remembered_make(path) };
+	bool was_there = group_state_find(path) != NULL;
+	*out = (struct node){ .group = group_state_make(path) };
 	if (!out->group)
 		return -ENOMEM;
 	int fault = engine_line("mkdir %s", path);
 	if (fault && !was_there)
-		remembered_lose(path);
+		group_state_lose(path);
 	if (fault == 0)
 		owner_begin(out->group, maker);
 	return fault;
 }
 
-static int make_below(uint64_t parent, const char *name, const struct shown *maker, struct node *out)
+static int make_below(uint64_t parent, const char *name, const struct inode_fields *maker, struct node *out)
 {
 	char path[PATH_MAX_SAID];
 	struct node directory;
 	int fault = path_in(parent, name, &directory, path);
 	if (fault == 0)
-		fault = path_fault(path);
+		fault = engine_path_fault(path);
 	if (fault == 0 && file_named(name, is_root(directory.group->path)))
 		fault = -EEXIST; /* perhaps of a controller that the group may get later */
 	if (fault == 0)
@@ -227,7 +228,7 @@ void tree_mkdir(fuse_req_t req, fuse_ino_t parent, const char *name, mode_t mode
 	struct fuse_entry_param entry = { .attr.st_nlink = 2 };
 	struct node made;
 	engine_lock();
-	int fault = make_below(parent, name, &(struct shown){ .mode = mode & 01777, .uid = by->uid, .gid = by->gid },
+	int fault = make_below(parent, name, &(struct inode_fields){ .mode = mode & 01777, .uid = by->uid, .gid = by->gid },
 		&made);
 	if (fault == 0) {
 		entry.ino = entry.attr.st_ino = nodes_number(&made);
@@ -238,22 +239,23 @@ void tree_mkdir(fuse_req_t req, fuse_ino_t parent, const char *name, mode_t mode
 	reply_entry(req, fault, &entry);
 }
 
+/* The zombies that leave and the removal are one operation, so one undo brings all of it back. */
 static int remove_below(uint64_t parent, const char *name)
 {
 	char path[PATH_MAX_SAID];
 	struct node directory;
 	int fault = path_in(parent, name, &directory, path);
 	if (fault == 0)
-		fault = real_sweep();
+		fault = host_processes_sweep();
 	if (fault == 0)
 		fault = engine_begin();
 	if (fault == 0) {
-		fault = reported_leave(path);
+		fault = run_processes_leave(path);
 		fault = engine_finish(fault ? fault : engine_line("rmdir %s", path));
 	}
 	if (fault)
 		return fault;
-	remembered_lose(path);
+	group_state_lose(path);
 	owner_touch(directory.group);
 	return 0;
 }

@@ -1,9 +1,9 @@
-#include "watch.h"
-#include "cleanup.h"
-#include "companion.h"
-#include "engine.h"
-#include "opened.h"
-#include "texts.h"
+#include "server/watch.h"
+#include "common/cleanup.h"
+#include "companion/companion.h"
+#include "engine/engine.h"
+#include "server/open_files.h"
+#include "server/texts.h"
 #include <fcntl.h>
 #include <pthread.h>
 #include <stdio.h>
@@ -12,7 +12,7 @@
 #include <sys/socket.h>
 #include <unistd.h>
 
-enum { TEXT_MAX = 40 };
+enum { TEXT_MAX = 40, PATH_SIZE = PATH_MAX_SAID + 32 };
 
 struct watched {
 	struct watched *next; /* among those of the group */
@@ -20,14 +20,16 @@ struct watched {
 	const struct file *file;
 	char text[TEXT_MAX];
 	bool queued;
-	const struct remembered *of;
+	const struct group_state *of;
 };
 
+/* Only while the companion is busy does a file wait in the queue, and a thread for the companion. The queue has a lock of its own,
+   since that thread must not have the engine's: the companion may wait for an answer of this server. Who has both takes the engine's
+   first. */
 static struct watched *queue, **queue_end = &queue;
-static pthread_cond_t told = PTHREAD_COND_INITIALIZER;
 static pthread_mutex_t queue_lock = PTHREAD_MUTEX_INITIALIZER;
-static pthread_t teller;
-static bool running, stopping;
+static pthread_cond_t waited = PTHREAD_COND_INITIALIZER; /* the thread no longer waits */
+static bool waits, stopping;
 static struct companion companion = { -1, -1 };
 
 /* If the text cannot be read, it is empty. No text is: so whoever waits is woken now or at the next change, and reads. */
@@ -47,7 +49,7 @@ static void read_text(struct watched *w, char out[TEXT_MAX])
 int watch_seen(const char *group, const struct file *file)
 {
 	WANTS_LOCK();
-	struct remembered *r = remembered_make(group);
+	struct group_state *r = group_state_make(group);
 	struct watched *w = r ? r->watched : NULL;
 	while (w && w->file != file)
 		w = w->next;
@@ -64,13 +66,54 @@ int watch_seen(const char *group, const struct file *file)
 	return 0;
 }
 
-static void *tell(void *unused);
-
-/* Requires the queue's lock. A thread that cannot be made now is made at the next change. */
-static void start(void)
+/* With the queue's lock. The path of the first file in the queue; false: there is none. */
+static bool first_path(char out[PATH_SIZE])
 {
-	if (!running && !stopping)
-		running = pthread_create(&teller, NULL, tell, NULL) == 0;
+	if (queue)
+		snprintf(out, PATH_SIZE, "%s/%s", queue->of->path, queue->file->name);
+	return queue != NULL;
+}
+
+/* With the queue's lock. */
+static void take_first(void)
+{
+	queue->queued = false;
+	queue = queue->to_tell;
+	if (!queue)
+		queue_end = &queue;
+}
+
+/* The thread that waits for the companion. It has no lock meanwhile, and ends with the queue. */
+static void *tell(void *unused)
+{
+	char path[PATH_SIZE];
+	pthread_mutex_lock(&queue_lock);
+	while (!stopping && first_path(path)) {
+		take_first(); /* first, so that a change meanwhile puts it in the queue again */
+		pthread_mutex_unlock(&queue_lock);
+		bool is_there = companion_tell(companion.to, path);
+		pthread_mutex_lock(&queue_lock);
+		stopping |= !is_there;
+	}
+	waits = false;
+	pthread_cond_signal(&waited);
+	pthread_mutex_unlock(&queue_lock);
+	return unused;
+}
+
+/* With the queue's lock. If no thread can be made now, the next change tries again. */
+static void tell_all(void)
+{
+	char path[PATH_SIZE];
+	pthread_t thread;
+	while (!waits && first_path(path)) {
+		if (companion_tell_now(companion.to, path))
+			take_first();
+		else {
+			waits = pthread_create(&thread, NULL, tell, NULL) == 0 && pthread_detach(thread) == 0;
+			return;
+		}
+	}
 }
 
 static void check(struct watched *w)
@@ -80,20 +123,21 @@ static void check(struct watched *w)
 	if (text[0] && strcmp(text, w->text) == 0)
 		return;
 	memcpy(w->text, text, TEXT_MAX);
-	opened_wake(w->of, w->file);
+	open_files_wake(w->of, w->file);
+	/* nobody waits with the queue's lock, so this thread, which has the engine's, soon goes on */
 	pthread_mutex_lock(&queue_lock);
-	start();
 	if (!w->queued && !stopping) {
 		w->queued = true;
 		w->to_tell = NULL;
 		*queue_end = w;
 		queue_end = &w->to_tell;
-		pthread_cond_signal(&told);
 	}
+	if (!stopping)
+		tell_all();
 	pthread_mutex_unlock(&queue_lock);
 }
 
-static void check_all(const struct remembered *r)
+static void check_all(const struct group_state *r)
 {
 	for (struct watched *w = r ? r->watched : NULL; w; w = w->next)
 		check(w);
@@ -105,13 +149,13 @@ void watch_above(const char *group)
 	WANTS_LOCK();
 	snprintf(at, sizeof at, "%s", group);
 	for (; !is_root(at); go_up(at))
-		check_all(remembered_find(at));
+		check_all(group_state_find(at));
 }
 
 void watch_below(const char *group)
 {
 	WANTS_LOCK();
-	remembered_each(group, check_all);
+	group_state_each(group, check_all);
 	watch_above(group);
 }
 
@@ -139,39 +183,14 @@ static void unqueue(struct watched *w)
 	pthread_mutex_unlock(&queue_lock);
 }
 
-void watch_forget(struct remembered *r)
+void watch_forget(struct group_state *r)
 {
 	WANTS_LOCK();
 	while (r->watched) {
 		struct watched *w = r->watched;
 		r->watched = w->next;
-		unqueue(w);
+		unqueue(w); /* the thread that waits for the companion has the queue's lock alone */
 		free(w);
-	}
-}
-
-/* The thread that writes to the companion: only this thread may wait for the socket, and it holds no lock meanwhile. */
-static void *tell(void *unused)
-{
-	char path[PATH_MAX_SAID + 32];
-	(void)unused;
-	for (;;) {
-		pthread_mutex_lock(&queue_lock);
-		while (!queue && !stopping)
-			pthread_cond_wait(&told, &queue_lock);
-		struct watched *w = queue;
-		if (!w) {
-			pthread_mutex_unlock(&queue_lock);
-			return NULL;
-		}
-		queue = w->to_tell;
-		if (!queue)
-			queue_end = &queue;
-		w->queued = false;
-		int n = snprintf(path, sizeof path, "%s/%s", w->of->path, w->file->name);
-		pthread_mutex_unlock(&queue_lock);
-		if (n > 0 && (size_t)n < sizeof path && !companion_tell(companion.to, path))
-			return NULL;
 	}
 }
 
@@ -196,25 +215,16 @@ pid_t watch_leave(void)
 	return companion.process;
 }
 
-void watch_run(void)
-{
-	pthread_mutex_lock(&queue_lock);
-	start();
-	pthread_mutex_unlock(&queue_lock);
-}
-
 /* The companion may be stopped, or wait for this server. So the thread that writes to it is not waited for before its socket
    was shut. */
 void watch_stop(void)
 {
 	pthread_mutex_lock(&queue_lock);
 	stopping = true;
-	pthread_cond_signal(&told);
-	pthread_mutex_unlock(&queue_lock);
 	shutdown(companion.to, SHUT_WR); /* it fails only if the companion has ended */
-	if (running)
-		pthread_join(teller, NULL); /* it cannot fail: the thread runs and nobody else joins it */
-	running = false;
+	while (waits)
+		pthread_cond_wait(&waited, &queue_lock);
+	pthread_mutex_unlock(&queue_lock);
 	close(companion.to);
 	companion.to = -1;
 }

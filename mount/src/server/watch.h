@@ -4,7 +4,7 @@
 #ifndef WATCH_H
 #define WATCH_H
 
-#include "remembered.h"
+#include "server/group_state.h"
 
 /* inotify reports only a change that is made through the mount, and the process that serves it must never make one. So a
    companion process makes the change, and receives its path by a socket. `root`: of a run, the root of its mount; -1: the
@@ -14,8 +14,7 @@ bool watch_begin(const char *mountpoint, int root);
 void watch_mounted(const char *mountpoint);
 /* In the supervisor: closes its end of the companion's socket, and returns the companion. */
 pid_t watch_leave(void);
-/* Call these in the server: once its threads may run, and before the unmount. */
-void watch_run(void);
+/* Call this in the server, before the unmount. */
 void watch_stop(void);
 
 /* The rest requires the engine's lock. A notified file was looked up. 0 or -ENOMEM */
@@ -26,6 +25,6 @@ void watch_above(const char *group);
 void watch_below(const char *group);
 /* The same as watch_above for the group that the process is in, if it is in any. */
 void watch_process(pid_t pid);
-void watch_forget(struct remembered *r);
+void watch_forget(struct group_state *r);
 
 #endif

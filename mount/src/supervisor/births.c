@@ -1,12 +1,11 @@
-#include "births.h"
-#include "advance.h"
-#include "clones.h"
-#include "link.h"
-#include "place.h"
-#include "registers.h"
-#include "roots.h"
-#include "spaces.h"
-#include "stops.h"
+#include "supervisor/births.h"
+#include "channels/advance.h"
+#include "channels/roots.h"
+#include "common/kernel.h"
+#include "common/namespaces.h"
+#include "supervisor/link.h"
+#include "supervisor/registers.h"
+#include "supervisor/tracee.h"
 #include <errno.h>
 #include <limits.h>
 #include <signal.h>
@@ -14,17 +13,20 @@
 #include <string.h>
 #include <sys/syscall.h>
 #include <sys/wait.h>
-#include <time.h>
 
 /* How long a child whose creator was killed may take to reach its first stop. It exists already and only has to be
    scheduled. */
 enum { PLACES = 65536, GRACE = 1000 };
 
+/* A birth reads the arguments of a clone3, then it is reserved, then it runs, and at last it is told: the hierarchy has the child. Before
+   it runs, the death of its creator ends it. Once it runs, the kernel may have made the child already, so the record waits for
+   that. */
 struct birth {
 	unsigned long ticket;
 	struct thread *creator; /* NULL: gone */
 	pid_t process, child;
 	bool is_thread, reads, reserved, told, runs; /* runs: the call is being made */
+	bool was_clone3;
 	bool stops_at_exec; /* its creator does */
 	bool makes_space; /* a cgroup namespace that the server does not know yet */
 	int fault; /* if told: the errno that the call returns instead of a child */
@@ -34,22 +36,15 @@ struct birth {
 };
 
 static struct birth *births[PLACES];
-static unsigned long last_ticket;
+static unsigned last_ticket; /* half of a register: the other half says whether the call was a clone3 */
 static size_t lost; /* births without a creator whose child has not come yet */
 static long long next_look;
 static bool counts_threads;
 
-static long long now(void)
-{
-	struct timespec t;
-	clock_gettime(CLOCK_MONOTONIC, &t);
-	return t.tv_sec * 1000LL + t.tv_nsec / 1000000;
-}
-
 static struct birth *find(unsigned long ticket)
 {
 	struct birth *b = births[ticket % PLACES];
-	return b && b->ticket == ticket ? b : NULL;
+	return b && b->ticket == ticket ? b : NULL; /* a place may be that of another ticket by now */
 }
 
 static struct birth *begin(struct thread *t)
@@ -75,7 +70,7 @@ static void end(struct birth *b)
 	if (b->reserved)
 		link_cancel(b->reservation);
 	if (b->makes_space)
-		link_space(0, (unsigned)b->ticket);
+		link_namespace(0, (unsigned)b->ticket);
 	if (b->creator)
 		b->creator->makes = NULL;
 	else if (!b->told)
@@ -128,11 +123,12 @@ static void refuse(struct thread *t, int error)
 {
 	struct registers before = t->makes->before;
 	end(t->makes);
-	stops_return(t->id, &before, -error);
+	tracee_return(t->id, &before, -error);
 }
 
 /* The program chose all of `args`, but can no longer change them: they are set in registers of a stopped thread.
-   CLONE_UNTRACED would take the child away from its supervisor. A thread that is no longer stopped was killed. */
+   CLONE_UNTRACED would take the child away from its supervisor. A thread that is no longer stopped was killed. The place in the
+   hierarchy is reserved before the kernel makes anything, and each step before the call can be taken back (`refuse`). */
 static void make(struct thread *t, struct birth *b, long number, struct clone_registers *args, const char *group)
 {
 	bool goes_on;
@@ -144,34 +140,35 @@ static void make(struct thread *t, struct birth *b, long number, struct clone_re
 		fault = link_reserve(b->process, group, b->is_thread, &b->reservation);
 	b->reserved = counts && fault == 0;
 	if (fault == 0 && args->flags & CLONE_NEWCGROUP) {
-		fault = link_prepare((unsigned)b->ticket, b->process);
+		fault = link_prepare((unsigned)b->ticket, b->process, group);
 		b->makes_space = fault == 0;
 	}
 	if (fault) {
 		refuse(t, -fault);
 		return;
 	}
+	/* before the call: the helper must not look up a path of the child by the old root */
 	if (args->flags & CLONE_NEWNS)
 		roots_change();
 	args->flags &= ~(unsigned long)CLONE_UNTRACED;
-	args->ticket = b->ticket;
+	args->ticket = b->ticket | (b->was_clone3 ? (unsigned long)WAS_CLONE3 << 32 : 0);
 	if (number == SYS_clone)
 		goes_on = registers_set_call(t->id, &b->before, SYS_clone, args);
 	else
 		goes_on = registers_set_ticket(t->id, &b->before, b->ticket);
 	b->runs = goes_on;
 	if (goes_on)
-		stops_run_call(t->id);
+		tracee_run_call(t->id);
 }
 
 /* clone3 has its arguments in memory. Other threads of the program can write there, and a file system of the program can
    block a read. So another process, which may wait, reads them once. */
 static void read_arguments(struct thread *t, struct birth *b, const struct clone_registers *regs)
 {
-	int fault = clones_check_size(regs->stack);
+	int fault = registers_check_clone_size(regs->stack);
 	if (fault == 0 && !helper_read(b->ticket, t->id, regs->flags, regs->stack))
 		fault = -ENOSYS; /* too many wait already: C libraries then use `clone` */
-	b->reads = fault == 0;
+	b->reads = b->was_clone3 = fault == 0;
 	if (fault)
 		refuse(t, -fault);
 }
@@ -186,7 +183,7 @@ void births_ask(struct thread *t, long number)
 		births_abandon(t);
 	struct birth *b = begin(t);
 	if (!b) {
-		stops_return(t->id, &before, -EAGAIN);
+		tracee_return(t->id, &before, -EAGAIN);
 		return;
 	}
 	b->before = before;
@@ -200,7 +197,7 @@ void births_ask(struct thread *t, long number)
 	}
 }
 
-void births_arguments(const struct memory_reply *reply)
+void births_arguments(const struct helper_reply *reply)
 {
 	struct clone_registers args;
 	struct birth *b = find(reply->ticket);
@@ -208,7 +205,8 @@ void births_arguments(const struct memory_reply *reply)
 		return; /* it was killed meanwhile */
 	struct thread *t = b->creator;
 	const struct clone_args *said = &reply->args;
-	int fault = reply->fault ? reply->fault : clones_fit(said, &args);
+	registers_of_clone(&b->before, &args); /* of clone3: the second argument is the size */
+	int fault = reply->fault ? reply->fault : registers_fit_clone(said, args.stack, &args);
 	b->reads = false;
 	bool elsewhere = fault == 0 && (said->flags & CLONE_INTO_CGROUP);
 	if (elsewhere)
@@ -258,11 +256,11 @@ static struct thread *settle(struct birth *b, pid_t child)
 		t->frozen |= frozen;
 		t->counted |= !b->is_thread && fault == 0;
 		if (b->makes_space && fault == 0) {
-			link_space(spaces_of(child), (unsigned)b->ticket);
+			link_namespace(namespaces_cgroup_of(child), (unsigned)b->ticket);
 			b->makes_space = false;
 		}
 	} else if (!b->is_thread && fault == 0)
-		link_exited(child);
+		link_exited(child); /* its death was taken when nobody knew its number */
 	if (fault) {
 		if (!ended)
 			kill(child, SIGKILL); /* it cannot fail: it was not waited for */
@@ -275,19 +273,19 @@ void births_told(struct thread *creator, pid_t child)
 {
 	struct birth *b = creator->makes;
 	if (!b || !b->runs) {
-		stops_run(creator->id, 0);
+		tracee_run(creator->id, 0);
 		return;
 	}
-	settle(b, child);
+	settle(b, child); /* before the creator returns: it may look for its child in the hierarchy at once */
 	if (b->fault) { /* its result is set after the call */
-		stops_run_call(creator->id);
+		tracee_run_call(creator->id);
 		return;
 	}
-	stops_restore_in(creator->id, &b->before);
+	tracee_restore_in(creator->id, &b->before);
 	creator->makes = NULL;
 	b->creator = NULL;
 	end_if_over(b);
-	stops_run(creator->id, 0);
+	tracee_run(creator->id, 0);
 }
 
 /* The call made no child, or its child may not run. The call may be restarted, and then needs its arguments. */
@@ -298,7 +296,7 @@ void births_returned(struct thread *t)
 	if (!b)
 		return;
 	if (registers_read(t->id, &now)) /* else it was killed */
-		stops_restore(t->id, &now, &b->before);
+		tracee_restore(t->id, &now, &b->before);
 	if (b->fault)
 		(void)registers_set_result(t->id, b->fault); /* it fails only if the thread was killed */
 	if (b->told)
@@ -315,16 +313,16 @@ struct thread *births_appeared(pid_t child)
 	if (!registers_read(child, &here))
 		return NULL; /* it was killed */
 	if (!b) {
-		b = find(registers_ticket(&here));
+		b = find((unsigned)registers_ticket(&here));
 		t = b && b->runs && !b->told ? settle(b, child) : NULL;
 	}
 	if (!t) { /* nobody asked for it, or it came too late */
 		kill(child, SIGKILL); /* it cannot fail: it was not waited for */
 		return NULL;
 	}
-	stops_restore(child, &here, &b->before);
+	tracee_restore(child, &here, &b->before);
 	if (b->is_thread)
-		stops_at_exec(t);
+		tracee_stop_at_exec(t);
 	t->started = true;
 	t->made_by = NULL;
 	end_if_over(b);
@@ -351,18 +349,19 @@ void births_abandon(struct thread *t)
 	t->makes = NULL;
 	if (!b->told) {
 		lost++;
-		b->given_up_at = now() + GRACE;
+		b->given_up_at = milliseconds() + GRACE;
 		if (next_look == 0 || b->given_up_at < next_look)
 			next_look = b->given_up_at;
 	}
 	end_if_over(b);
 }
 
+/* All places are looked at, but at most once for each creator that was killed in its call. */
 int births_give_up(void)
 {
 	if (lost == 0)
 		return -1;
-	long long t = now(), next = LLONG_MAX;
+	long long t = milliseconds(), next = LLONG_MAX;
 	if (t >= next_look) {
 		for (size_t i = 0; i < PLACES; i++) {
 			struct birth *b = births[i];

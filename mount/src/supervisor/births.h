@@ -5,8 +5,8 @@
 #ifndef BIRTHS_H
 #define BIRTHS_H
 
-#include "helper.h"
-#include "threads.h"
+#include "helper/helper.h"
+#include "supervisor/threads.h"
 #include <stdbool.h>
 #include <sys/types.h>
 
@@ -18,7 +18,7 @@ bool births_is_fork(long number);
 /* A thread is at the stop before such a call. */
 void births_ask(struct thread *t, long number);
 /* The arguments of a clone3, which the helper has read. */
-void births_arguments(const struct memory_reply *reply);
+void births_arguments(const struct helper_reply *reply);
 /* The creator's event names a child. */
 void births_told(struct thread *creator, pid_t child);
 /* It is at the stop after a call. */

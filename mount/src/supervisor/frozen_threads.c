@@ -1,11 +1,11 @@
-#include "halts.h"
-#include "link.h"
-#include "stops.h"
+#include "supervisor/frozen_threads.h"
+#include "common/kernel.h"
+#include "supervisor/link.h"
+#include "supervisor/tracee.h"
 #include <errno.h>
 #include <signal.h>
 #include <stdint.h>
 #include <sys/ptrace.h>
-#include <sys/syscall.h>
 #include <sys/wait.h>
 #include <time.h>
 #include <unistd.h>
@@ -15,7 +15,7 @@ enum { ORDERS = 32, AGAIN = 5 };
 
 static int wake = -1;
 
-void halts_begin(int fd)
+void frozen_threads_begin(int fd)
 {
 	wake = fd;
 }
@@ -36,7 +36,7 @@ static void set(struct thread *t, enum rest how)
 static bool has_ended(pid_t id)
 {
 	siginfo_t unused;
-	if (syscall(SYS_move_pages, id, 0UL, NULL, NULL, NULL, 0) == 0)
+	if (look_for_memory(id) == 0)
 		return false;
 	if (errno == EINVAL || errno == ESRCH)
 		return true;
@@ -62,7 +62,7 @@ static bool rests(struct thread *first)
 	return all || ended;
 }
 
-void halts_tell(pid_t process)
+void frozen_threads_tell(pid_t process)
 {
 	struct thread *first = threads_find(process);
 	if (!first || !first->counted)
@@ -76,12 +76,12 @@ void halts_tell(pid_t process)
 	link_stopped(first->id, all);
 }
 
-void halts_forget(struct thread *t)
+void frozen_threads_forget(struct thread *t)
 {
 	set_undecided(t, false);
 }
 
-int halts_look_again(void)
+int frozen_threads_look_again(void)
 {
 	static long long looked_at;
 	if (undecided == 0)
@@ -93,48 +93,48 @@ int halts_look_again(void)
 		looked_at = now;
 		for (struct thread *each = threads_all(); each; each = each->next)
 			if (each->undecided)
-				halts_tell(each->id);
+				frozen_threads_tell(each->id);
 	}
 	return undecided ? AGAIN : -1;
 }
 
 /* ---------------------------------------------------------------- at a stop */
 
-bool halts_keeps(struct thread *t, enum rest how)
+bool frozen_threads_keeps(struct thread *t, enum rest how)
 {
 	if (t->frozen)
 		set(t, how);
 	return t->frozen;
 }
 
-void halts_moves(struct thread *t)
+void frozen_threads_moves(struct thread *t)
 {
 	if (t->rest != RUNS)
 		set(t, RUNS);
 }
 
-void halts_listens(struct thread *t)
+void frozen_threads_listens(struct thread *t)
 {
 	set(t, LISTENS);
 }
 
-void halts_vforks(struct thread *t)
+void frozen_threads_vforks(struct thread *t)
 {
 	set(t, VFORKS);
 }
 
 /* ---------------------------------------------------------------- orders */
 
-void halts_insists(struct thread *t)
+void frozen_threads_insists(struct thread *t)
 {
 	if (t->frozen && t->started && t->rest == RUNS)
-		stops_interrupt(t->id);
+		tracee_interrupt(t->id);
 }
 
 static void freeze(struct thread *t)
 {
 	t->frozen = true;
-	halts_insists(t);
+	frozen_threads_insists(t);
 }
 
 /* It may have been killed meanwhile, and another thread that called execve may have its number. */
@@ -147,6 +147,8 @@ static bool stands_parked(pid_t id)
 	return event == PTRACE_EVENT_STOP || event == PTRACE_EVENT_VFORK_DONE;
 }
 
+/* A thread that a signal has stopped continues by SIGCONT, and one that waits for a child by vfork continues with that. A thread that
+   runs may have been interrupted, and then leaves its next stop at once. */
 static void go_on(struct thread *t, void (*call)(struct thread *t))
 {
 	enum rest was = t->rest;
@@ -155,13 +157,14 @@ static void go_on(struct thread *t, void (*call)(struct thread *t))
 		return;
 	set(t, RUNS);
 	if (was == PARKED && stands_parked(t->id))
-		stops_run(t->id, 0);
+		tracee_run(t->id, 0);
 	else if (was == BEFORE_CALL)
 		call(t);
 }
 
 static void obey(struct thread *first, bool stop, void (*call)(struct thread *t))
 {
+	/* the server may have thawed and frozen it since the last order, and then wants to hear of its stop again */
 	first->told = false;
 	for (struct thread *t = first->members > 1 ? threads_all() : first, *next; t; t = next) {
 		next = first->members > 1 ? t->next : NULL;
@@ -170,10 +173,10 @@ static void obey(struct thread *first, bool stop, void (*call)(struct thread *t)
 		else if (t->process == first->id)
 			go_on(t, call);
 	}
-	halts_tell(first->id);
+	frozen_threads_tell(first->id);
 }
 
-bool halts_take_orders(void (*call)(struct thread *t))
+bool frozen_threads_take_orders(void (*call)(struct thread *t))
 {
 	static bool more;
 	uint64_t times;

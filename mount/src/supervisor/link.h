@@ -1,17 +1,12 @@
-/* The requests of a program's supervisor to the process that serves the mount. */
+/* The supervisor's questions to the server (channels/questions.h). */
 #ifndef LINK_H
 #define LINK_H
 
 #include <stdbool.h>
-#include <stddef.h>
 #include <sys/types.h>
 
 /* A pair of ends; false if it cannot be made. */
 bool link_make(int ends[2]);
-/* The server's side: a thread that answers until the other end closes, and then ends this process. */
-bool link_answer(int end);
-/* The server, with the lock: meanwhile the number of no process becomes another's. */
-void link_hold_numbers(bool hold);
 /* The supervisor's side; `process` is the server. */
 void link_use(int end, pid_t process);
 /* 0 and a reservation, or the negated errno if the process may not make a child (in a group, if that is not NULL), or a thread.
@@ -25,14 +20,15 @@ void link_cancel(unsigned reservation);
 void link_thread_born(unsigned reservation, pid_t thread);
 void link_thread_ended(pid_t thread);
 void link_exited(pid_t pid);
-/* Wakes the server if it has news for a while. Returns how long until the next call is needed: in milliseconds, -1 for never. */
+/* Wakes the server if events wait for a while. Returns how long until the next call is needed: in milliseconds, -1 for never. */
 int link_wake_late(void);
 /* All threads of a frozen process rest, or no longer do. */
 void link_stopped(pid_t pid, bool stopped);
-/* A call of the process is about to make a cgroup namespace: 0, or the negated errno if it may not. `call` is a number by
-   which the caller knows it. Then: it has made this one, or with number 0 none. */
-int link_prepare(unsigned call, pid_t process);
-void link_space(unsigned number, unsigned call);
+/* A call of the process is about to make a cgroup namespace, which begins at this group, or with NULL at the one that the process is
+   in: 0, or the negated errno if it may not. `call` is a number by which the caller knows it. Then: it has made this one, or with
+   number 0 none. */
+int link_prepare(unsigned call, pid_t process, const char *group);
+void link_namespace(unsigned number, unsigned call);
 /* The next process that has to stop or to continue; false if there is none. */
 bool link_order(pid_t *pid, bool *stop);
 

@@ -1,10 +1,12 @@
-#include "registers.h"
+#include "supervisor/registers.h"
 #include <elf.h>
 #include <errno.h>
+#include <limits.h>
+#include <signal.h>
 #include <stddef.h>
 #include <sys/ptrace.h>
-#include <sys/syscall.h>
 #include <sys/uio.h>
+#include <unistd.h>
 
 static bool write_all(pid_t thread, const struct user_regs_struct *regs)
 {
@@ -28,6 +30,11 @@ bool registers_restore_in(pid_t thread, const struct registers *before)
 unsigned long registers_ticket(const struct registers *r)
 {
 	return r->kernel.r9;
+}
+
+unsigned long registers_stack(const struct registers *r)
+{
+	return r->kernel.rsp;
 }
 
 void registers_of_clone(const struct registers *r, struct clone_registers *out)
@@ -60,6 +67,11 @@ bool registers_set_ticket(pid_t thread, const struct registers *before, unsigned
 {
 	(void)before;
 	return ptrace(PTRACE_POKEUSER, thread, offsetof(struct user_regs_struct, r9), ticket) == 0;
+}
+
+bool registers_set_third(pid_t thread, unsigned long value)
+{
+	return ptrace(PTRACE_POKEUSER, thread, offsetof(struct user_regs_struct, rdx), value) == 0;
 }
 
 bool registers_restore(pid_t thread, const struct registers *now, const struct registers *before)
@@ -101,6 +113,11 @@ unsigned long registers_ticket(const struct registers *r)
 	return r->kernel.regs[5];
 }
 
+unsigned long registers_stack(const struct registers *r)
+{
+	return r->kernel.sp;
+}
+
 void registers_of_clone(const struct registers *r, struct clone_registers *out)
 {
 	const unsigned long long *x = r->kernel.regs;
@@ -124,6 +141,15 @@ bool registers_set_ticket(pid_t thread, const struct registers *before, unsigned
 	struct user_regs_struct k = before->kernel;
 	k.regs[5] = ticket;
 	return write_all(thread, &k);
+}
+
+bool registers_set_third(pid_t thread, unsigned long value)
+{
+	struct registers now;
+	if (!registers_read(thread, &now))
+		return false;
+	now.kernel.regs[2] = value;
+	return write_all(thread, &now.kernel);
 }
 
 /* The first register has the result; if a call is restarted, the kernel has kept the first argument. */
@@ -160,3 +186,61 @@ bool registers_set_result(pid_t thread, long result)
 }
 
 #endif
+
+/* ---------------------------------------------------------------- the arguments of clone3 */
+
+/* PID_SPACES: how many namespaces of process numbers can be in one another. */
+enum { LARGEST = 4096, PID_SPACES = 32 };
+
+#ifndef CLONE_NEWTIME
+#define CLONE_NEWTIME 0x00000080
+#endif
+
+int registers_check_clone_size(size_t size)
+{
+	if (size > LARGEST)
+		return -E2BIG;
+	if (size < CLONE_ARGS_SIZE_VER0)
+		return -EINVAL;
+	/* larger ones have fields that do not fit into registers */
+	return size > CLONE_ARGS_SIZE_VER2 ? -ENOSYS : 0;
+}
+
+static bool is_valid(const struct clone_args *a, size_t size)
+{
+	const __u64 known = 0xffffffffULL | CLONE_CLEAR_SIGHAND | CLONE_INTO_CGROUP;
+	if (a->flags & ~known || a->flags & (CLONE_DETACHED | (CSIGNAL & ~CLONE_NEWTIME)))
+		return false;
+	if ((a->flags & CLONE_SIGHAND) && (a->flags & CLONE_CLEAR_SIGHAND))
+		return false;
+	if ((a->flags & (CLONE_THREAD | CLONE_PARENT)) && a->exit_signal)
+		return false;
+	if (a->exit_signal & ~(__u64)CSIGNAL || a->exit_signal >= NSIG)
+		return false;
+	/* smaller ones have no field for the group, whose 0 would be a descriptor */
+	if ((a->flags & CLONE_INTO_CGROUP) && (a->cgroup > INT_MAX || size < CLONE_ARGS_SIZE_VER2))
+		return false;
+	if ((a->set_tid == 0) != (a->set_tid_size == 0) || a->set_tid_size > PID_SPACES)
+		return false;
+	/* what is above is the kernel's */
+	return (a->stack == 0) == (a->stack_size == 0) && a->stack <= LONG_MAX && a->stack_size <= LONG_MAX - a->stack;
+}
+
+int registers_fit_clone(const struct clone_args *a, size_t size, struct clone_registers *out)
+{
+	const __u64 beyond = CLONE_CLEAR_SIGHAND | CLONE_NEWTIME;
+	if (!is_valid(a, size))
+		return -EINVAL;
+	/* `clone` has one argument for two of the numbers that it writes */
+	if (a->flags & beyond || a->set_tid_size || a->set_tid ||
+		((a->flags & CLONE_PIDFD) && (a->flags & CLONE_PARENT_SETTID)))
+		return -ENOSYS;
+	*out = (struct clone_registers){
+		.flags = (a->flags & ~CLONE_INTO_CGROUP) | a->exit_signal,
+		.stack = a->stack + a->stack_size,
+		.parent_tid = a->flags & CLONE_PIDFD ? a->pidfd : a->parent_tid,
+		.child_tid = a->child_tid,
+		.tls = a->tls,
+	};
+	return 0;
+}

@@ -3,7 +3,9 @@
 #ifndef REGISTERS_H
 #define REGISTERS_H
 
+#include <linux/sched.h>
 #include <stdbool.h>
+#include <stddef.h>
 #include <sys/types.h>
 #include <sys/user.h>
 
@@ -20,11 +22,14 @@ struct clone_registers {
 /* False if the thread is no longer stopped. */
 bool registers_read(pid_t thread, struct registers *out);
 unsigned long registers_ticket(const struct registers *r);
+unsigned long registers_stack(const struct registers *r);
 void registers_of_clone(const struct registers *r, struct clone_registers *out);
 /* Before a call: replaces it by the call `number` with these arguments. */
 bool registers_set_call(pid_t thread, const struct registers *before, long number, const struct clone_registers *args);
 /* Before a call: sets only the ticket. */
 bool registers_set_ticket(pid_t thread, const struct registers *before, unsigned long ticket);
+/* Before or after a call: sets only the third argument. */
+bool registers_set_third(pid_t thread, unsigned long value);
 /* In a call: restores what the program had there before it. */
 bool registers_restore_in(pid_t thread, const struct registers *before);
 /* After a call: restores the arguments. `now`: what is there. */
@@ -35,5 +40,12 @@ bool registers_return(pid_t thread, const struct registers *before, int result);
 bool registers_was_interrupted(const struct registers *r, long *call);
 /* After a call. */
 bool registers_set_result(pid_t thread, long result);
+
+/* The arguments of clone3, as `clone` takes them in registers. */
+/* Whether the kernel accepts a size of arguments: 0 or -errno. */
+int registers_check_clone_size(size_t size);
+/* 0; the kernel's -errno for arguments of this size that it would refuse; -ENOSYS for what does not fit into registers.
+   CLONE_INTO_CGROUP is left out: the supervisor does it. */
+int registers_fit_clone(const struct clone_args *args, size_t size, struct clone_registers *out);
 
 #endif

@@ -1,5 +1,6 @@
-#include "restarts.h"
-#include "registers.h"
+#include "supervisor/restarts.h"
+#include "supervisor/registers.h"
+#include "supervisor/signals.h"
 #include <signal.h>
 #include <sys/syscall.h>
 
@@ -42,19 +43,14 @@ static bool may_begin_again(long call)
 	}
 }
 
-static bool stops(int signal)
-{
-	return signal == SIGSTOP || signal == SIGTSTP || signal == SIGTTIN || signal == SIGTTOU;
-}
-
 /* After a stop by a signal these calls end with EINTR in the kernel too. */
 void restarts_call(struct thread *t, int signal)
 {
 	struct registers now;
 	long call;
 	bool was_stopped = t->was_stopped;
-	t->was_stopped = stops(signal) || (was_stopped && signal != SIGCONT);
-	if (stops(signal) || was_stopped)
+	t->was_stopped = signals_is_stop(signal) || (was_stopped && signal != SIGCONT);
+	if (signals_is_stop(signal) || was_stopped)
 		return;
 	if (registers_read(t->id, &now) && registers_was_interrupted(&now, &call) && may_begin_again(call))
 		(void)registers_set_result(t->id, -ERESTARTNOHAND); /* it fails only if the thread was killed */

@@ -3,7 +3,7 @@
 #ifndef RESTARTS_H
 #define RESTARTS_H
 
-#include "threads.h"
+#include "supervisor/threads.h"
 
 /* At the stop before this signal is delivered: a call that has ended with EINTR begins again, unless a handler runs. */
 void restarts_call(struct thread *t, int signal);

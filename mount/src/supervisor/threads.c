@@ -1,21 +1,20 @@
-#include "threads.h"
+#include "supervisor/threads.h"
+#include "common/kernel.h"
 #include <signal.h>
 #include <stdlib.h>
 
-enum { THREADS = 4194305 };
-
-static struct thread *by_number[THREADS], *all;
+static struct thread *by_number[PIDS], *all;
 static size_t count;
 
 struct thread *threads_find(pid_t id)
 {
-	return id > 0 && id < THREADS ? by_number[id] : NULL;
+	return is_pid(id) ? by_number[id] : NULL;
 }
 
 struct thread *threads_add(pid_t id, pid_t process)
 {
 	struct thread *t = threads_find(id);
-	if (t || id <= 0 || id >= THREADS)
+	if (t || !is_pid(id))
 		return t;
 	t = calloc(1, sizeof *t);
 	if (!t)

@@ -24,7 +24,11 @@ struct thread {
 	bool unshares; /* it asks for a cgroup namespace */
 	bool asks_strict; /* for the strict mode of seccomp, and waits for the answer */
 	bool strict; /* it has entered that mode */
+	bool asks_filter; /* it waits for the copy of a filter that it is about to add */
+	bool adds_filter; /* it is in the call that adds the copy */
+	unsigned long filter_at; /* where its own is */
 	bool was_stopped; /* a signal has stopped it, and no SIGCONT was delivered since */
+	int stopped_by; /* at rest LISTENS: that signal */
 	enum rest rest;
 	/* of the first thread of a process: how many threads there are, how many of them rest, and whether the server knows
 	   that all do */

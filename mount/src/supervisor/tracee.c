@@ -1,5 +1,5 @@
-#include "stops.h"
-#include "serve.h"
+#include "supervisor/tracee.h"
+#include "common/message.h"
 #include <errno.h>
 #include <string.h>
 #include <sys/ptrace.h>
@@ -8,7 +8,7 @@
 static const long always = PTRACE_O_TRACEFORK | PTRACE_O_TRACEVFORK | PTRACE_O_TRACECLONE | PTRACE_O_TRACEVFORKDONE |
 	PTRACE_O_TRACESECCOMP | PTRACE_O_TRACESYSGOOD | PTRACE_O_EXITKILL;
 
-bool stops_begin(pid_t process)
+bool tracee_attach(pid_t process)
 {
 	return ptrace(PTRACE_SEIZE, process, 0, always) == 0;
 }
@@ -22,51 +22,51 @@ static void resume(enum __ptrace_request how, pid_t thread, int signal)
 		say("a thread cannot go on: %s", strerror(errno));
 }
 
-void stops_run(pid_t thread, int signal)
+void tracee_run(pid_t thread, int signal)
 {
 	const struct thread *t = threads_find(thread);
 	resume(t && t->strict ? PTRACE_SYSCALL : PTRACE_CONT, thread, signal);
 }
 
-void stops_run_call(pid_t thread)
+void tracee_run_call(pid_t thread)
 {
 	resume(PTRACE_SYSCALL, thread, 0);
 }
 
 /* A thread whose registers could not be written must not go on to make the call. */
-void stops_return(pid_t thread, const struct registers *before, int result)
+void tracee_return(pid_t thread, const struct registers *before, int result)
 {
 	if (registers_return(thread, before, result))
-		stops_run(thread, 0);
+		tracee_run(thread, 0);
 }
 
-void stops_restore_in(pid_t thread, const struct registers *before)
+void tracee_restore_in(pid_t thread, const struct registers *before)
 {
 	(void)registers_restore_in(thread, before); /* it fails as all calls here do */
 }
 
-void stops_restore(pid_t thread, const struct registers *now, const struct registers *before)
+void tracee_restore(pid_t thread, const struct registers *now, const struct registers *before)
 {
 	(void)registers_restore(thread, now, before); /* as above */
 }
 
-void stops_at_exec(struct thread *t)
+void tracee_stop_at_exec(struct thread *t)
 {
 	if (!t->stops_at_exec && ptrace(PTRACE_SETOPTIONS, t->id, 0, always | PTRACE_O_TRACEEXEC) == 0)
 		t->stops_at_exec = true;
 }
 
-void stops_listen(pid_t thread)
+void tracee_listen(pid_t thread)
 {
 	resume(PTRACE_LISTEN, thread, 0);
 }
 
-void stops_interrupt(pid_t thread)
+void tracee_interrupt(pid_t thread)
 {
 	resume(PTRACE_INTERRUPT, thread, 0);
 }
 
-pid_t stops_message(pid_t thread)
+pid_t tracee_message(pid_t thread)
 {
 	unsigned long number = 0;
 	return ptrace(PTRACE_GETEVENTMSG, thread, 0, &number) == 0 ? (pid_t)number : 0;

@@ -1,27 +1,17 @@
-/* Which processes may block on what.
-
-   The supervisor (run, tracer, births, halts, threads, registers, stops, strict, restarts, clones, signals) waits for ptrace
-   stops, for signals, and for its sockets to the server and to the helper. It waits for nothing else, since all threads of the
-   program wait for it. So it looks up no path, opens, reads and writes no file, and does not touch the program's memory: each can be
-   in a file system of the program, or behind a lock that the kernel holds for a thread that waits for one. (One look-up in
-   /proc remains on kernels before 6.11: see spaces_of.)
-   It waits for an answer of the server, which waits for nobody but the engine's lock (serve.c). A server that the program has
-   stopped is continued meanwhile.
-   The helper's threads may block on the program. What they are asked can be given up, and there are enough of them. */
-#include "tracer.h"
-#include "births.h"
-#include "filter.h"
-#include "halts.h"
-#include "helper.h"
-#include "link.h"
-#include "own.h"
-#include "registers.h"
-#include "restarts.h"
-#include "roots.h"
-#include "spaces.h"
-#include "stops.h"
-#include "strict.h"
-#include "threads.h"
+#include "supervisor/tracer.h"
+#include "channels/roots.h"
+#include "common/namespaces.h"
+#include "common/own_processes.h"
+#include "helper/helper.h"
+#include "supervisor/births.h"
+#include "supervisor/filter.h"
+#include "supervisor/frozen_threads.h"
+#include "supervisor/link.h"
+#include "supervisor/registers.h"
+#include "supervisor/restarts.h"
+#include "supervisor/signals.h"
+#include "supervisor/threads.h"
+#include "supervisor/tracee.h"
 #include <errno.h>
 #include <sched.h>
 #include <signal.h>
@@ -42,7 +32,7 @@ static bool program_ended;
 bool tracer_hold(pid_t pid)
 {
 	program = pid;
-	if (!stops_begin(pid))
+	if (!tracee_attach(pid))
 		return false;
 	errno = EAGAIN;
 	return births_first(pid);
@@ -61,31 +51,32 @@ static void refuse(struct thread *t, int error)
 {
 	struct registers before;
 	if (registers_read(t->id, &before)) /* else it was killed */
-		stops_return(t->id, &before, -error);
+		tracee_return(t->id, &before, -error);
 }
 
-/* The cgroup namespace is handled after the call. */
+/* The server notes the namespace's root before the call, which begins at the process's group as it is now. It hears of the number of
+   the namespace after the call. */
 static void on_unshare(struct thread *t, unsigned long flags)
 {
 	if (flags & CLONE_NEWNS)
 		roots_change();
 	if (!(flags & CLONE_NEWCGROUP)) {
-		stops_run(t->id, 0);
+		tracee_run(t->id, 0);
 		return;
 	}
-	int fault = link_prepare(unshare_of(t), t->process);
+	int fault = link_prepare(unshare_of(t), t->process, NULL);
 	if (fault) {
 		refuse(t, -fault);
 		return;
 	}
 	t->unshares = true;
-	stops_run_call(t->id);
+	tracee_run_call(t->id);
 }
 
 static void on_root(struct thread *t)
 {
 	roots_change();
-	stops_run(t->id, 0);
+	tracee_run(t->id, 0);
 }
 
 static void return_from_strict(struct thread *t, int result)
@@ -94,28 +85,55 @@ static void return_from_strict(struct thread *t, int result)
 	t->asks_strict = false;
 	t->strict = result == 0;
 	if (registers_read(t->id, &before)) /* else it was killed */
-		stops_return(t->id, &before, result);
+		tracee_return(t->id, &before, result);
+}
+
+/* The filter is in the program's memory, which the helper reads and writes. */
+static void on_new_filter(struct thread *t, unsigned long at)
+{
+	struct registers before;
+	if (!registers_read(t->id, &before))
+		return; /* it was killed */
+	t->asks_filter = helper_copy_filter(t->id, at, registers_stack(&before));
+	t->filter_at = at;
+	if (!t->asks_filter)
+		tracee_run(t->id, 0);
+}
+
+/* The call's argument is restored after it. */
+static void add_filter(struct thread *t, unsigned long copy)
+{
+	t->asks_filter = false;
+	t->adds_filter = copy && registers_set_third(t->id, copy);
+	if (t->adds_filter)
+		tracee_run_call(t->id);
+	else
+		tracee_run(t->id, 0);
 }
 
 /* How many filters the thread has is said by a file of /proc, which the helper reads. */
 static void on_seccomp(struct thread *t, long number, const uint64_t args[6])
 {
-	int fault = strict_wanted(number, args);
-	if (fault > 0)
-		stops_run(t->id, 0);
+	int fault = filter_wants_strict(number, args);
+	if (filter_is_added(number, args))
+		on_new_filter(t, args[2]);
+	else if (fault > 0)
+		tracee_run(t->id, 0);
 	else if (fault < 0)
 		refuse(t, -fault);
 	else if (helper_count_filters(t->id))
 		t->asks_strict = true;
 	else
-		return_from_strict(t, strict_result(-1));
+		return_from_strict(t, filter_strict_result(-1));
 }
 
-void tracer_filters(pid_t thread, long filters)
+void tracer_filters(const struct helper_reply *reply)
 {
-	struct thread *t = threads_find(thread);
-	if (t && t->asks_strict) /* else it was killed meanwhile */
-		return_from_strict(t, strict_result(filters));
+	struct thread *t = threads_find(reply->thread); /* one that asks for nothing was killed meanwhile */
+	if (t && t->asks_strict)
+		return_from_strict(t, filter_strict_result(reply->filters));
+	else if (t && t->asks_filter)
+		add_filter(t, reply->copy);
 }
 
 /* The stop was taken a while ago. Meanwhile the thread may have been killed, and another that called execve may have its
@@ -125,7 +143,7 @@ static void on_call(struct thread *t)
 	struct __ptrace_syscall_info call;
 	if (ptrace(PTRACE_GET_SYSCALL_INFO, t->id, sizeof call, &call) <= 0)
 		return; /* it was killed */
-	if (call.op != PTRACE_SYSCALL_INFO_SECCOMP || halts_keeps(t, BEFORE_CALL))
+	if (call.op != PTRACE_SYSCALL_INFO_SECCOMP || frozen_threads_keeps(t, BEFORE_CALL))
 		return;
 	long number = (long)call.seccomp.nr;
 	bool is_ours = call.seccomp.ret_data == FILTER_MARK;
@@ -140,17 +158,17 @@ static void on_call(struct thread *t)
 	else if (number == SYS_prctl || number == SYS_seccomp)
 		on_seccomp(t, number, call.seccomp.args);
 	else /* waitid or wait4: every death before this stop has been handled, so the caller sees it */
-		stops_run(t->id, 0);
+		tracee_run(t->id, 0);
 }
 
 static void on_birth(struct thread *t, bool waits)
 {
-	pid_t child = stops_message(t->id);
+	pid_t child = tracee_message(t->id);
 	if (child == 0)
 		return; /* it was killed */
 	births_told(t, child);
 	if (waits)
-		halts_vforks(t);
+		frozen_threads_vforks(t);
 }
 
 /* Its number does. */
@@ -166,9 +184,9 @@ static void leaves(const struct thread *t)
 static void on_vfork_done(struct thread *t)
 {
 	if (t->makes)
-		stops_run_call(t->id);
-	else if (!halts_keeps(t, PARKED))
-		stops_run(t->id, 0);
+		tracee_run_call(t->id);
+	else if (!frozen_threads_keeps(t, PARKED))
+		tracee_run(t->id, 0);
 }
 
 /* The caller was not the first thread, or a thread that was not the first has made it (stops_at_exec). All other threads of the
@@ -176,18 +194,18 @@ static void on_vfork_done(struct thread *t)
    doing, no longer exists, and its death is not reported. */
 static void on_exec(struct thread *t)
 {
-	pid_t former = stops_message(t->id);
-	t->asks_strict = false;
+	pid_t former = tracee_message(t->id);
+	t->asks_strict = t->asks_filter = t->adds_filter = false;
 	births_abandon(t);
 	struct thread *other = former == t->id ? NULL : threads_find(former);
 	if (other) {
 		t->strict = other->strict;
 		births_abandon(other);
-		halts_forget(other);
+		frozen_threads_forget(other);
 		leaves(other);
 		threads_drop(other);
 	}
-	stops_run(t->id, 0);
+	tracee_run(t->id, 0);
 }
 
 /* The first stop of a new thread, or a stop of a whole process (job control), in which it stays until it is continued. */
@@ -198,11 +216,12 @@ static void on_pause(pid_t id, int signal)
 		t = births_appeared(id);
 	if (!t)
 		return;
-	if (signal == SIGSTOP || signal == SIGTSTP || signal == SIGTTIN || signal == SIGTTOU) {
-		halts_listens(t);
-		stops_listen(id);
-	} else if (!halts_keeps(t, PARKED))
-		stops_run(id, 0);
+	if (signals_is_stop(signal)) {
+		frozen_threads_listens(t);
+		t->stopped_by = signal;
+		tracee_listen(id);
+	} else if (!frozen_threads_keeps(t, PARKED))
+		tracee_run(id, 0);
 }
 
 /* The stop after a call, or before one of a thread in strict mode. A call that failed has made no namespace. */
@@ -211,15 +230,19 @@ static void at_call(struct thread *t)
 	struct __ptrace_syscall_info call;
 	if (ptrace(PTRACE_GET_SYSCALL_INFO, t->id, sizeof call, &call) <= 0)
 		return; /* it was killed */
-	if (t->strict && call.op == PTRACE_SYSCALL_INFO_ENTRY && !strict_allows((long)call.entry.nr)) {
+	if (t->strict && call.op == PTRACE_SYSCALL_INFO_ENTRY && !filter_strict_allows((long)call.entry.nr)) {
 		kill(t->process, SIGKILL); /* it cannot fail: the process is not waited for before this thread */
 		return;
 	}
 	births_returned(t);
+	if (t->adds_filter)
+		(void)registers_set_third(t->id, t->filter_at); /* it fails only if the thread was killed */
+	t->adds_filter = false;
 	if (t->unshares)
-		link_space(call.op == PTRACE_SYSCALL_INFO_EXIT && !call.exit.is_error ? spaces_of(t->id) : 0, unshare_of(t));
+		link_namespace(call.op == PTRACE_SYSCALL_INFO_EXIT && !call.exit.is_error ? namespaces_cgroup_of(t->id) : 0,
+			unshare_of(t));
 	t->unshares = false;
-	stops_run(t->id, 0);
+	tracee_run(t->id, 0);
 }
 
 static bool is_vfork(int status)
@@ -258,7 +281,7 @@ static void on_stop_of(pid_t id, struct thread *t, int status)
 		at_call(t);
 	else {
 		restarts_call(t, signal);
-		stops_run(id, signal);
+		tracee_run(id, t->process == program ? signals_once(id, signal) : signal);
 	}
 }
 
@@ -296,12 +319,12 @@ static void on_stop(const struct stop *stop)
 	if (!(stop->alone && is_alone(id)) && !stands_there(id, stop->status))
 		return;
 	if (t)
-		halts_moves(t);
+		frozen_threads_moves(t);
 	on_stop_of(id, t, stop->status);
 	if (!(t = threads_find(id)))
 		return;
-	halts_insists(t);
-	halts_tell(t->process);
+	frozen_threads_insists(t);
+	frozen_threads_tell(t->process);
 }
 
 /* The hierarchy is told about a death before the parent is. */
@@ -313,11 +336,11 @@ static void on_end(pid_t id)
 	pid_t process = t->process;
 	leaves(t);
 	if (t->unshares)
-		link_space(0, unshare_of(t));
+		link_namespace(0, unshare_of(t));
 	births_abandon(t);
-	halts_forget(t);
+	frozen_threads_forget(t);
 	threads_drop(t);
-	halts_tell(process);
+	frozen_threads_tell(process);
 }
 
 /* ---------------------------------------------------------------- all of them */
@@ -351,12 +374,14 @@ static int take_next(size_t at)
 		int taken = take_stop(at);
 		return taken ? taken : -1; /* killed in between; the next look finds its death */
 	}
+	/* it was not waited for, so no other process can have the number before the hierarchy has heard of the death */
 	id_t id = (id_t)next.si_pid;
+	signals_hear(program); /* first, since it knows the senders by their numbers */
 	on_end((pid_t)id);
 	int status;
 	if (waitpid((pid_t)id, &status, WNOHANG | __WALL) != (pid_t)id)
 		return -1; /* of a first thread whose number another has by an execve: then it is no death */
-	own_gone((pid_t)id);
+	own_processes_gone((pid_t)id);
 	if ((pid_t)id == program) {
 		program_status = status;
 		program_ended = true;
@@ -382,7 +407,7 @@ bool tracer_look(void)
 
 bool tracer_obey(void)
 {
-	return halts_take_orders(on_call);
+	return frozen_threads_take_orders(on_call);
 }
 
 bool tracer_has_ended(int *status)

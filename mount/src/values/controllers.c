@@ -1,9 +1,9 @@
-#include "controllers.h"
-#include "engine.h"
-#include "opened.h"
-#include "scan.h"
-#include "shown.h"
-#include "values.h"
+#include "values/controllers.h"
+#include "engine/engine.h"
+#include "processes/visible_processes.h"
+#include "server/open_files.h"
+#include "values/scan.h"
+#include "values/values.h"
 #include <errno.h>
 #include <makhloeum.h>
 #include <stdio.h>
@@ -52,7 +52,7 @@ unsigned controllers_kept(void)
 
 static unsigned subtree_of(const char *group)
 {
-	const struct remembered *r = remembered_find(group);
+	const struct group_state *r = group_state_find(group);
 	return !kept ? HAS_PIDS : r ? r->subtree : 0;
 }
 
@@ -78,7 +78,7 @@ static int text_of(const char *group, const char *name, const char **text, size_
 	if (fault)
 		return fault;
 	*text = engine_text(size);
-	return shown_text(group, file_named(name, is_root(group)), text, size);
+	return visible_processes_text(group, file_named(name, is_root(group)), text, size);
 }
 
 /* These questions, and those below, are answered by 1, 0 or -errno. */
@@ -192,13 +192,14 @@ static int may_enable(const char *group, unsigned which)
 
 /* ---------------------------------------------------------------- cgroup.controllers, cgroup.subtree_control */
 
+/* Without a controller the text has no line feed either. */
 static void show(unsigned which, char out[TEXT_ROOM])
 {
 	size_t n = 0;
 	for (size_t i = 0; i < NAMES; i++)
 		if (which & names[i].bit)
 			n += (size_t)snprintf(out + n, TEXT_ROOM - n, "%s%s", n ? " " : "", names[i].name);
-	snprintf(out + n, TEXT_ROOM - n, "\n");
+	snprintf(out + n, TEXT_ROOM - n, "%s", n ? "\n" : "");
 }
 
 int controllers_show(const char *group, const struct file *file, char out[TEXT_ROOM])
@@ -235,10 +236,10 @@ static int read_change(char *text, unsigned *enable, unsigned *disable)
 /* A child loses these controllers: their values are dropped, and their open files are of no group any more. */
 static int forget_in(const char *child, unsigned which)
 {
-	struct remembered *r = remembered_find(child);
+	struct group_state *r = group_state_find(child);
 	if (r) {
 		values_forget(r, which);
-		opened_lose_files(r, which);
+		open_files_lose_files(r, which);
 	}
 	return 0;
 }
@@ -263,7 +264,7 @@ static int set_subtree(const char *group, unsigned which, unsigned lost)
 {
 	const char *children = "";
 	size_t count = 0;
-	struct remembered *r = remembered_make(group);
+	struct group_state *r = group_state_make(group);
 	int fault = !r ? -ENOMEM : lost ? engine_children(group, &children, &count) : 0;
 	if (fault == 0 && lost & HAS_PIDS)
 		fault = lift_limits(group, children, count);
@@ -313,7 +314,7 @@ int subtree_write(const char *group, const struct file *file, const char *data, 
 		return -E2BIG;
 	memcpy(text, data, size);
 	text[size] = 0;
-	char *said = scan_strip(text);
+	char *said = strip_spaces(text);
 	if (!kept)
 		return take_unchanged(said, "+pids");
 	int fault = read_change(said, &enable, &disable);
@@ -350,5 +351,5 @@ int type_write(const char *group, const struct file *file, const char *data, siz
 	memcpy(text, data, size);
 	text[size] = 0;
 	int fault = type_of(group, &type);
-	return fault ? fault : take_unchanged(scan_strip(text), type);
+	return fault ? fault : take_unchanged(strip_spaces(text), type);
 }

@@ -4,7 +4,7 @@
 #ifndef CONTROLLERS_H
 #define CONTROLLERS_H
 
-#include "files.h"
+#include "values/files.h"
 
 /* In the kernel's order. */
 enum { HAS_CPUSET = 1, HAS_CPU = 2, HAS_IO = 4, HAS_MEMORY = 8, HAS_PIDS = 16 };

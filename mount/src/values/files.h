@@ -2,12 +2,10 @@
 #ifndef FILES_H
 #define FILES_H
 
+#include <number_parser.h>
 #include <stdbool.h>
 #include <stddef.h>
 #include <sys/types.h>
-
-/* What a file of the engine accepts in a write. WRITES: `write` handles it. */
-enum value { NOTHING, A_PID, A_COUNT, A_PIDS_LIMIT, A_ONE, A_SWITCH, WRITES };
 
 /* The longest text of a file that the engine does not have. */
 enum { TEXT_ROOM = 4096 };
@@ -15,7 +13,7 @@ enum { TEXT_ROOM = 4096 };
 struct file {
 	const char *name;
 	bool on_root, readable, extra; /* extra: exists only with --extra */
-	enum value value;
+	enum value value; /* WRITES: `write` handles it */
 	bool notified; /* a changed text wakes those that poll or watch it */
 	unsigned controller; /* its controller (controllers.h); 0: the hierarchy itself */
 	const char *

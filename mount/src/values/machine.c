@@ -1,7 +1,7 @@
-#include "machine.h"
-#include "cleanup.h"
-#include "files.h"
-#include "status.h"
+#include "values/machine.h"
+#include "common/cleanup.h"
+#include "common/proc_status.h"
+#include "values/files.h"
 #include <fcntl.h>
 #include <stdio.h>
 #include <string.h>
@@ -12,21 +12,21 @@ static const char *const paths[MACHINE_LISTS] = {
 	[NODES_POSSIBLE] = "/sys/devices/system/node/possible",
 	[NODES_WITH_MEMORY] = "/sys/devices/system/node/has_memory",
 };
-static struct list lists[MACHINE_LISTS];
+static struct number_ranges lists[MACHINE_LISTS];
 
 static struct disk {
 	unsigned major, minor;
 } * disks;
 static size_t disk_count;
 
-static void read_list(const char *path, struct list *out)
+static void read_list(const char *path, struct number_ranges *out)
 {
 	char line[TEXT_ROOM];
-	if (status_text(path, line, sizeof line) < 0)
+	if (proc_status_text(path, line, sizeof line) < 0)
 		snprintf(line, sizeof line, "0");
 	line[strcspn(line, "\n")] = 0;
-	if (list_read(line, LIST_MAX, out) || list_is_empty(out))
-		(void)list_read("0", LIST_MAX, out); /* it is a list */
+	if (number_ranges_read(line, NUMBER_RANGES_MAX, out) || number_ranges_is_empty(out))
+		(void)number_ranges_read("0", NUMBER_RANGES_MAX, out); /* it is a list */
 }
 
 static bool add_disk(unsigned major, unsigned minor)
@@ -66,7 +66,7 @@ bool machine_read(void)
 	return read_disks();
 }
 
-const struct list *machine_has(enum machine_list which)
+const struct number_ranges *machine_has(enum machine_list which)
 {
 	return &lists[which];
 }

@@ -1,12 +1,11 @@
-#include "lists.h"
+#include "values/number_ranges.h"
 #include <errno.h>
-#include <limits.h>
 #include <stdio.h>
 #include <string.h>
 
-static bool has(const struct list *l, unsigned n)
+static bool has(const struct number_ranges *l, unsigned n)
 {
-	return n < LIST_MAX && l->bits[n / 8] & (1U << n % 8);
+	return n < NUMBER_RANGES_MAX && l->bits[n / 8] & (1U << n % 8);
 }
 
 static bool is_blank(char c)
@@ -72,7 +71,7 @@ static const char *take_region(const char *at, unsigned bits, struct region *r, 
 	return *fault ? NULL : at;
 }
 
-static int add_region(const struct region *r, unsigned bits, struct list *out)
+static int add_region(const struct region *r, unsigned bits, struct number_ranges *out)
 {
 	if (r->first > r->last || r->of == 0 || r->used > r->of)
 		return -EINVAL;
@@ -84,12 +83,12 @@ static int add_region(const struct region *r, unsigned bits, struct list *out)
 	return 0;
 }
 
-int list_read(const char *text, unsigned bits, struct list *out)
+int number_ranges_read(const char *text, unsigned bits, struct number_ranges *out)
 {
 	int fault = 0;
 	memset(out, 0, sizeof *out);
-	if (bits > LIST_MAX)
-		bits = LIST_MAX;
+	if (bits > NUMBER_RANGES_MAX)
+		bits = NUMBER_RANGES_MAX;
 	for (;;) {
 		struct region r;
 		while (*text == ',' || is_blank(*text))
@@ -106,10 +105,10 @@ int list_read(const char *text, unsigned bits, struct list *out)
 
 /* ---------------------------------------------------------------- the rest */
 
-bool list_write(const struct list *l, char *out, size_t size)
+bool number_ranges_write(const struct number_ranges *l, char *out, size_t size)
 {
 	size_t at = 0;
-	for (unsigned n = 0; n < LIST_MAX; n++) {
+	for (unsigned n = 0; n < NUMBER_RANGES_MAX; n++) {
 		if (!has(l, n))
 			continue;
 		unsigned first = n;
@@ -126,13 +125,13 @@ bool list_write(const struct list *l, char *out, size_t size)
 	return true;
 }
 
-bool list_is_empty(const struct list *l)
+bool number_ranges_is_empty(const struct number_ranges *l)
 {
-	static const struct list none;
+	static const struct number_ranges none;
 	return memcmp(l, &none, sizeof none) == 0;
 }
 
-bool list_is_within(const struct list *l, const struct list *all)
+bool number_ranges_is_within(const struct number_ranges *l, const struct number_ranges *all)
 {
 	for (size_t i = 0; i < sizeof l->bits; i++)
 		if (l->bits[i] & ~all->bits[i])
@@ -140,15 +139,15 @@ bool list_is_within(const struct list *l, const struct list *all)
 	return true;
 }
 
-void list_keep_common(struct list *l, const struct list *other)
+void number_ranges_keep_common(struct number_ranges *l, const struct number_ranges *other)
 {
 	for (size_t i = 0; i < sizeof l->bits; i++)
 		l->bits[i] &= other->bits[i];
 }
 
-unsigned list_last(const struct list *l)
+unsigned number_ranges_last(const struct number_ranges *l)
 {
-	unsigned n = LIST_MAX - 1;
+	unsigned n = NUMBER_RANGES_MAX - 1;
 	while (n && !has(l, n))
 		n--;
 	return n;

@@ -1,6 +1,6 @@
-#include "values.h"
-#include "controllers.h"
-#include "engine.h"
+#include "values/values.h"
+#include "engine/engine.h"
+#include "values/controllers.h"
 #include <errno.h>
 #include <stdlib.h>
 #include <string.h>
@@ -96,7 +96,7 @@ static const struct file *named(const char *name)
 	return f;
 }
 
-static struct kept_value **find(struct remembered *r, const struct file *file)
+static struct kept_value **find(struct group_state *r, const struct file *file)
 {
 	struct kept_value **at = &r->values;
 	while (*at && (*at)->file != file)
@@ -114,7 +114,7 @@ static void drop(struct kept_value **at)
 const char *values_kept(const char *group, const char *name)
 {
 	const struct file *file = named(name);
-	struct remembered *r = remembered_find(group);
+	struct group_state *r = group_state_find(group);
 	const struct kept_value *v = r ? *find(r, file) : NULL;
 	return v ? v->text : file->constant;
 }
@@ -123,7 +123,7 @@ int values_keep(const char *group, const char *name, const char *text)
 {
 	const struct file *file = named(name);
 	size_t size = strlen(text) + 1;
-	struct remembered *r = remembered_make(group);
+	struct group_state *r = group_state_make(group);
 	struct kept_value *v = r ? malloc(sizeof *v + size) : NULL;
 	if (!v)
 		return -ENOMEM;
@@ -136,7 +136,7 @@ int values_keep(const char *group, const char *name, const char *text)
 	return 0;
 }
 
-void values_forget(struct remembered *r, unsigned controllers)
+void values_forget(struct group_state *r, unsigned controllers)
 {
 	WANTS_LOCK();
 	for (struct kept_value **at = &r->values; *at;)

@@ -1,10 +1,15 @@
 /* Values of other controllers, which are stored and returned. One table has each file with its parser, its normal form, its
    value in a new group, and which groups have it. The values of a group are remembered with it; the engine has none of
-   them. */
+   them.
+
+   The folder values: the table of a group's files, the controllers, and the parsers of what is written to kept values.
+   Who runs it: the server, with the engine's lock. A parser changes nothing until the whole value is accepted.
+   It waits for nothing. It may not look up a path: what the machine has is read once before the mount (machine.h), since the program
+   could keep a later look-up in /sys waiting, or cover what it shows. It knows no process of a run. */
 #ifndef VALUES_H
 #define VALUES_H
 
-#include "remembered.h"
+#include "server/group_state.h"
 
 extern const struct file values_files[];
 extern const size_t values_count;
@@ -14,7 +19,7 @@ const char *values_kept(const char *group, const char *name);
 /* Stores it. 0 or -ENOMEM. */
 int values_keep(const char *group, const char *name, const char *text);
 /* Drops the values of these controllers. */
-void values_forget(struct remembered *r, unsigned controllers);
+void values_forget(struct group_state *r, unsigned controllers);
 
 /* The write of any kept file. */
 int values_write(const char *group, const struct file *file, const char *data, size_t size);

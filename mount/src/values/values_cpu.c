@@ -1,7 +1,7 @@
 /* cpu.*: a weight and a nice value are two forms of one number of shares, which is what is stored. */
-#include "controllers.h"
-#include "scan.h"
-#include "values.h"
+#include "values/controllers.h"
+#include "values/scan.h"
+#include "values/values.h"
 #include <errno.h>
 #include <stdio.h>
 #include <stdlib.h>
@@ -77,7 +77,7 @@ int cpu_take_weight(const char *group, const struct file *file, const char *said
 {
 	unsigned long long n;
 	(void)file;
-	int fault = scan_unsigned(said, &n);
+	int fault = parse_unsigned(said, &n);
 	if (fault)
 		return fault;
 	if (n < 1 || n > WEIGHT_MAX)
@@ -99,7 +99,7 @@ int cpu_show_weight(const char *group, const struct file *file, char out[TEXT_RO
 int cpu_take_nice(const char *group, const struct file *file, const char *said, char out[TEXT_ROOM])
 {
 	long long n;
-	int fault = scan_signed(said, &n);
+	int fault = parse_signed(said, &n);
 	(void)file;
 	if (fault)
 		return fault;
@@ -128,7 +128,7 @@ int cpu_take_idle(const char *group, const struct file *file, const char *said, 
 	char shares[16];
 	long long n;
 	(void)file;
-	int fault = scan_signed(said, &n);
+	int fault = parse_signed(said, &n);
 	if (fault || n < 0 || n > 1)
 		return fault ? fault : -EINVAL;
 	snprintf(out, TEXT_ROOM, "%lld\n", n);
@@ -197,7 +197,7 @@ int cpu_take_burst(const char *group, const struct file *file, const char *said,
 {
 	unsigned long long quota, period, burst;
 	(void)file;
-	int fault = scan_unsigned(said, &burst);
+	int fault = parse_unsigned(said, &burst);
 	if (fault)
 		return fault;
 	read_max(group, &quota, &period);

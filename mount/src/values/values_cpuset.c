@@ -1,8 +1,8 @@
 /* cpuset.*: lists of processors and of memory nodes of this machine. */
-#include "engine.h"
-#include "machine.h"
-#include "scan.h"
-#include "values.h"
+#include "engine/engine.h"
+#include "values/machine.h"
+#include "values/scan.h"
+#include "values/values.h"
 #include <errno.h>
 #include <stdio.h>
 #include <string.h>
@@ -16,26 +16,26 @@ static bool is_mems(const struct file *file)
 int cpuset_take_list(const char *group, const struct file *file, const char *said, char out[TEXT_ROOM])
 {
 	char text[TEXT_ROOM + 1];
-	struct list wanted;
-	const struct list *possible = machine_has(is_mems(file) ? NODES_POSSIBLE : CPUS_POSSIBLE);
+	struct number_ranges wanted;
+	const struct number_ranges *possible = machine_has(is_mems(file) ? NODES_POSSIBLE : CPUS_POSSIBLE);
 	(void)group;
 	snprintf(text, sizeof text, "%s", said);
-	unsigned bits = is_mems(file) ? NODES_MAX : list_last(possible) + 1;
-	int fault = list_read(scan_strip(text), bits, &wanted);
+	unsigned bits = is_mems(file) ? NODES_MAX : number_ranges_last(possible) + 1;
+	int fault = number_ranges_read(strip_spaces(text), bits, &wanted);
 	if (fault)
 		return fault;
-	if (!list_is_within(&wanted, possible))
+	if (!number_ranges_is_within(&wanted, possible))
 		return -EINVAL;
-	return list_write(&wanted, out, TEXT_ROOM) ? 0 : -ENOMEM;
+	return number_ranges_write(&wanted, out, TEXT_ROOM) ? 0 : -ENOMEM;
 }
 
 /* What is both in the group's list and in that above it; if that is nothing, all of the list above. */
-static void narrow(const char *group, const char *name, struct list *effective)
+static void narrow(const char *group, const char *name, struct number_ranges *effective)
 {
-	struct list own, left = *effective;
-	if (list_read(values_kept(group, name), LIST_MAX, &own) == 0 && !list_is_empty(&own)) {
-		list_keep_common(&left, &own);
-		if (!list_is_empty(&left))
+	struct number_ranges own, left = *effective;
+	if (number_ranges_read(values_kept(group, name), NUMBER_RANGES_MAX, &own) == 0 && !number_ranges_is_empty(&own)) {
+		number_ranges_keep_common(&left, &own);
+		if (!number_ranges_is_empty(&left))
 			*effective = left;
 	}
 }
@@ -43,7 +43,7 @@ static void narrow(const char *group, const char *name, struct list *effective)
 int cpuset_show_effective(const char *group, const struct file *file, char out[TEXT_ROOM])
 {
 	char at[PATH_MAX_SAID];
-	struct list effective = *machine_has(is_mems(file) ? NODES_WITH_MEMORY : CPUS_ONLINE);
+	struct number_ranges effective = *machine_has(is_mems(file) ? NODES_WITH_MEMORY : CPUS_ONLINE);
 	const char *name = is_mems(file) ? "cpuset.mems" : "cpuset.cpus";
 	for (size_t n = 1; !is_root(group); n++)
 		if (group[n] == '/' || group[n] == 0) {
@@ -52,7 +52,7 @@ int cpuset_show_effective(const char *group, const struct file *file, char out[T
 			if (group[n] == 0)
 				break;
 		}
-	if (!list_write(&effective, out, TEXT_ROOM))
+	if (!number_ranges_write(&effective, out, TEXT_ROOM))
 		snprintf(out, TEXT_ROOM, "\n");
 	return 0;
 }
@@ -65,7 +65,7 @@ int cpuset_take_partition(const char *group, const struct file *file, const char
 	char text[TEXT_ROOM + 1];
 	(void)group, (void)file;
 	snprintf(text, sizeof text, "%s", said);
-	const char *word = scan_strip(text);
+	const char *word = strip_spaces(text);
 	for (size_t i = 0; i < sizeof words / sizeof *words; i++)
 		if (strcmp(word, words[i]) == 0) {
 			snprintf(out, TEXT_ROOM, "%s\n", word);

@@ -1,7 +1,7 @@
 /* io.*: a write names one device and leaves the others unchanged. The text that is stored is the text that is read. */
-#include "machine.h"
-#include "scan.h"
-#include "values.h"
+#include "values/machine.h"
+#include "values/scan.h"
+#include "values/values.h"
 #include <errno.h>
 #include <limits.h>
 #include <stdio.h>

@@ -1,6 +1,6 @@
 /* memory.*: bytes are stored as whole pages. */
-#include "scan.h"
-#include "values.h"
+#include "values/scan.h"
+#include "values/values.h"
 #include <errno.h>
 #include <limits.h>
 #include <stdio.h>
@@ -16,7 +16,7 @@ int memory_take_limit(const char *group, const struct file *file, const char *sa
 	unsigned long long page = (unsigned long long)sysconf(_SC_PAGESIZE);
 	(void)group, (void)file;
 	snprintf(text, sizeof text, "%s", said);
-	const char *from = scan_strip(text);
+	const char *from = strip_spaces(text);
 	unsigned long long pages = scan_memory(from, &end) / page;
 	if (strcmp(from, "max") == 0)
 		pages = LONG_MAX / page;
@@ -36,7 +36,7 @@ int memory_take_switch(const char *group, const struct file *file, const char *s
 	long long n;
 	(void)group, (void)file;
 	snprintf(text, sizeof text, "%s", said);
-	int fault = scan_signed(scan_strip(text), &n);
+	int fault = parse_signed(strip_spaces(text), &n);
 	if (fault || n < INT_MIN || n > INT_MAX)
 		return fault ? fault : -ERANGE;
 	if (n != 0 && n != 1)

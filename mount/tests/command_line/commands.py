@@ -2,9 +2,11 @@
 import os
 import shutil
 import subprocess
+import sys
 import tempfile
 
-from support import PATIENCE, PROGRAM, finish, in_parallel, same, step
+sys.path.insert(0, os.path.dirname(os.path.dirname(os.path.realpath(__file__))))
+from support import PATIENCE, PROGRAM, finish, in_parallel, same, step, without_notes
 
 
 def said(path, *words):
@@ -15,7 +17,7 @@ def said(path, *words):
         stderr=subprocess.PIPE,
         timeout=4 * PATIENCE,  # sixteen begin at the same time
     )
-    return ran.returncode, ran.stderr.decode()
+    return without_notes((ran.returncode, ran.stderr.decode()))
 
 
 def missing(name):
@@ -29,7 +31,7 @@ def denied(name):
 home = tempfile.mkdtemp()
 os.chdir(home)
 closed, plain, folders = (os.path.join(home, name) for name in ("closed", "plain", "folders"))
-# one of another user: in the program's namespace its user has every permission over its own files
+# one of another user
 others = next(
     (f for f in ("/root", "/etc/ssl/private", "/lost+found") if os.path.isdir(f) and not os.access(f, os.X_OK)), closed
 )
@@ -40,6 +42,9 @@ for name in (os.path.join(plain, "found"), os.path.join(closed, "found"), "found
         f.write("exit 0\n")
     os.chmod(name, 0o644)
 os.mkdir(os.path.join(folders, "found"))
+shutil.copy("/bin/true", os.path.join(closed, "true"))
+shutil.copy("/bin/true", "for-others")
+os.chmod("for-others", 0o055)
 os.chmod(closed, 0)
 usual = "/usr/bin:/bin"
 if os.getuid() == 0:
@@ -50,7 +55,13 @@ else:
         told = path.replace(home, "HOME")
         same("run, nothing found: %s" % told, said(path, "run", "nosuch"), missing("nosuch"))
         same("a command: %s" % told, said(path, "nosuch"), (2, absent))
-    same("by its path", said(usual, "run", closed + "/found"), denied(closed + "/found"))
+    for name in ("found", "true"):
+        same(
+            "by its path: %s" % name, said(usual, "run", os.path.join(closed, name)), denied(os.path.join(closed, name))
+        )
+    same("only for others", said(usual, "run", "./for-others"), denied("./for-others"))
+    same("as the superuser of a namespace", said(usual, "run", "--root", "./for-others"), (0, ""))
+    same("only in a folder that is closed", said(closed, "run", "true"), missing("true"))
     same("behind it", said(others + ":" + usual, "run", "true"), (0, ""))
     same("and not executable", said(others + ":" + plain, "run", "found"), denied("found"))
     same("before it", said(plain + ":" + others, "run", "found"), denied("found"))

@@ -3,6 +3,8 @@ were if it does not begin."""
 import ctypes
 import glob
 import os
+import re
+import resource
 import shutil
 import signal
 import stat
@@ -10,10 +12,12 @@ import subprocess
 import sys
 import tempfile
 
-from support import AT, CGREPLAY, PATIENCE, PROGRAM, Beside, Mount, error_of, finish, libc, parent_of, read, same
-from support import status_within, step, until
+sys.path.insert(0, os.path.dirname(os.path.dirname(os.path.realpath(__file__))))
+from support import AT, CGREPLAY, CGSHELL, PATIENCE, PROGRAM, Beside, Mount, error_of, finish, libc, parent_of, read
+from support import same, status_within, step, until
 
 HOME = tempfile.mkdtemp()
+UNPROVED = " without proofs"  # what a program adds to its version if ./try made it
 
 
 def ran(*words, program=PROGRAM, **how):
@@ -40,6 +44,15 @@ def folder(name):
 
 
 # ---------------------------------------------------------------- options
+
+
+def unread(is_ignored, *words):
+    """The status and the message of makhloeum if nobody reads its standard output. SIGPIPE ends it, unless it is ignored."""
+    ours, theirs = os.pipe()
+    os.close(ours)
+    p = subprocess.run([PROGRAM, *words], stdout=theirs, stderr=subprocess.PIPE, restore_signals=not is_ignored)
+    os.close(theirs)
+    return p.returncode, p.stderr
 
 
 BAD = "makhloeum: bad command line; see makhloeum --help\n"
@@ -81,14 +94,44 @@ def options():
         ("mount", "--threads=no", at),
     ):
         same("makhloeum %s" % " ".join(words), ran(*words), (2, "", BAD))
+    for words in (("--version",), ("-V",), ("--version", "x"), ("-V", "run")):
+        status, text, said = ran(*words)
+        step(
+            "makhloeum %s" % " ".join(words),
+            re.fullmatch(r"makhloeum \d+\.\d+\.\d+(%s)?\n" % UNPROVED, text) and (status, said) == (0, ""),
+        )
+        if os.path.exists(CGSHELL):
+            other = ran(*words, program=CGSHELL)
+            wanted = (status, text.replace("makhloeum", "cgshell").replace(UNPROVED, ""), said)
+            same("as cgshell", (other[0], other[1].replace(UNPROVED, ""), other[2]), wanted)
+    for words in (("--versio",), ("--version=1",), ("-V1",), ("-v",), ("-hV",)):
+        same("makhloeum %s" % " ".join(words), ran(*words), (2, "", BAD))
     status, text, said = ran("--help")
     same("--help", (status, said, ran("-h")), (0, "", (0, text, "")))
     for (
         option
-    ) in "--trace --answers --extra --keep --adopt --control --foreground --root --users --threads=no view tree check".split():
+    ) in "--trace --answers --extra --keep --adopt --control --foreground --root --users --threads=no --version view tree check".split():
         step("it has %s" % option, option in text)
     with open("/dev/full", "w") as full:
-        same("--help that cannot be written", subprocess.run([PROGRAM, "--help"], stdout=full, stderr=-3).returncode, 1)
+        got = subprocess.run([PROGRAM, "--version"], stdout=full, stderr=subprocess.PIPE, timeout=PATIENCE)
+    same(
+        "--version that cannot be written",
+        (got.returncode, got.stderr),
+        (1, b"makhloeum: write failed: No space left on device\n"),
+    )
+    for words in ("--help", "-h", "mount --help", "mount -h", "run --help", "run -h"):
+        same("makhloeum %s" % words, ran(*words.split()), (0, text, ""))
+        for to, wanted in (
+            (">/dev/full", (1, "makhloeum: write failed: No space left on device\n")),
+            (">&-", (1, "makhloeum: write failed: Bad file descriptor\n")),
+            ("<&- >&-", (1, "makhloeum: write failed: Bad file descriptor\n")),
+            (">&- 2>&-", (1, "")),
+            (">/dev/full 2>/dev/full", (1, "")),
+        ):
+            status, _, said = ran("-c", '"$0" %s %s' % (words, to), PROGRAM, program="sh")
+            same("makhloeum %s %s" % (words, to), (status, said), wanted)
+        for is_ignored, wanted in ((True, (141, b"")), (False, (-signal.SIGPIPE, b""))):
+            same("makhloeum %s that nobody reads" % words, unread(is_ignored, *words.split()), wanted)
     for words, has in (
         (("--extra", at), {"extra"}),
         ((at, "--extra"), {"extra"}),
@@ -161,6 +204,14 @@ def statuses():
     same("a folder", ran("run", HOME)[0], 126)
     same("an empty name", ran("run", "")[0], 127)
     same("a name on PATH", ran("run", "script", env={"PATH": HOME, "TMPDIR": HOME})[0], 126)
+    sizes = lambda: resource.setrlimit(resource.RLIMIT_FSIZE, (0, resource.getrlimit(resource.RLIMIT_FSIZE)[1]))
+    table = ran("run", "cat", "/proc/cgroups")
+    same("a text of /proc where files may have no bytes", ran("run", "cat", "/proc/cgroups", preexec_fn=sizes), table)
+    script = "ulimit -f 1; mkdir %s/a && echo 5 >%s/a/pids.max && cat %s/a/pids.max" % (AT, AT, AT)
+    same("a value where they may have a block", ran("run", "sh", "-c", script), (0, "5\n", ""))
+    # the program with sanitizers is one that looks for leaks by ptrace
+    leaks = dict(os.environ, ASAN_OPTIONS="detect_leaks=0")
+    same("one that would trace itself", ran("run", PROGRAM, "--version", env=leaks), ran("--version"))
     same("its words", ran("run", "sh", "-c", 'echo "$0|$@|$#"', "a", "b c", "", "*")[1], "a|b c  *|3\n")
 
 
@@ -177,7 +228,8 @@ shift; exec "$@" """
         shutil.rmtree(os.path.join(HOME, "dev"))
     file = os.path.join(HOME, "file")
     open(file, "w").close()
-    for where, why in ((file, "%s is not a directory"), (at + "/none", "%s: No such file or directory")):
+    missing = "%s: No such file or directory"
+    for where, why in ((file, "%s is not a directory"), (at + "/none", missing), ("nosuch/below", missing)):
         same("mount on %s" % os.path.basename(where), ran("mount", where), (2, "", "makhloeum: " + why % where + "\n"))
     same("nothing is mounted", (os.path.ismount(at), os.listdir(at)), (False, []))
 
@@ -224,10 +276,11 @@ def passed():
         if heard is None:
             p.kill()
             return
-    for each in (signal.SIGINT, signal.SIGHUP, signal.SIGQUIT, signal.SIGTERM):
+    together = (signal.SIGINT, signal.SIGHUP, signal.SIGQUIT, signal.SIGTERM, signal.SIGUSR1)
+    for each in together:
         p.send_signal(each)
-    got = {int(p.stdout.readline()) for _ in range(3)}
-    same("several that come together", got, {signal.SIGHUP, signal.SIGINT, signal.SIGTERM})
+    got = {int(p.stdout.readline()) for _ in together}
+    same("several that come together", got, set(together))
     p.send_signal(signal.SIGHUP)
     same("none twice, and no other", p.stdout.readline(), "%d\n" % signal.SIGHUP)
     p.kill()
@@ -236,7 +289,12 @@ def passed():
 
 
 def streams():
-    """A standard stream that is closed at the start: no other file of makhloeum gets what is written to it."""
+    """The program has the descriptors of the caller, and no other. A standard stream that is closed at the start: no other file of
+    makhloeum gets what is written to it."""
+    for before, wanted in (("", "0 1 2"), ("exec 5</dev/null;", "0 1 2 5")):
+        script = before + """"$0" run sh -c 'ls /proc/$$/fd; :'"""
+        status, text, said = ran("-c", script, PROGRAM, program="sh")
+        same("the program's descriptors", (status, text.split(), said), (0, wanted.split(), ""))
     trace, answers = (os.path.join(HOME, "stream-" + n) for n in ("trace", "answers"))
     for closed in ("<&-", ">&-", "2>&-", "<&- >&-", "<&- 2>&-", ">&- 2>&-", "<&- >&- 2>&-"):
         script = '"$0" run --trace "$1" --answers "$2" nosuch ' + closed

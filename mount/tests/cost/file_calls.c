@@ -1,4 +1,4 @@
-/* cost DIRECTORY FILE-TO-READ FILE-TO-WRITE VALUE [GROUP]: microseconds for one call each, the best of two hundred runs of a hundred. */
+/* file_calls DIRECTORY FILE-TO-READ FILE-TO-WRITE VALUE [GROUP]: microseconds for one call each, the best of two hundred runs of a hundred. */
 #include <fcntl.h>
 #include <stdio.h>
 #include <stdlib.h>

@@ -1,4 +1,4 @@
-/* under: microseconds for what a supervisor sees, the best of sixty runs of fifty. */
+/* traced_calls: microseconds for what a supervisor sees, the best of sixty runs of fifty. */
 #include <fcntl.h>
 #include <pthread.h>
 #include <stdio.h>

@@ -13,6 +13,7 @@ import sys
 import tempfile
 import time
 
+sys.path.insert(0, os.path.dirname(os.path.dirname(os.path.realpath(__file__))))
 from support import AT, PATIENCE, PROGRAM, Mount, finish, in_parallel, is_alive, libc, read, same, step, until, write
 
 ME = os.path.realpath(__file__)

@@ -12,6 +12,7 @@ import tempfile
 import threading
 import time
 
+sys.path.insert(0, os.path.dirname(os.path.dirname(os.path.realpath(__file__))))
 from support import PATIENCE, PROGRAM, Beside, Mount, companions_of
 from support import error_of, finish, is_alive, libc, line_of, own_of, parent_of, read, same, server_and_helper
 from support import status_within, step, until, write
@@ -269,9 +270,14 @@ def covered():
 
 
 def unheard():
-    """Nobody reads what makhloeum says: that ends neither a mount nor a run."""
+    """Nobody reads what makhloeum says: that ends no run, and a mount that is refused has its own status."""
     r, w = os.pipe()
     os.close(r)
+    at = tempfile.mkdtemp()
+    os.chmod(at, 0o555)
+    p = subprocess.Popen([PROGRAM, "mount", at, "--foreground"], stderr=w)
+    same("a mount on what may not be written", status_within(p), 2)
+    os.rmdir(at)
     code = "import ctypes, os\nctypes.CDLL(None).ptrace(0, 0, 0, 0)\nprint(open('/proc/self/cgroup').read(), end='')"
     ran = subprocess.run(
         [PROGRAM, "run", sys.executable, "-c", code], stdout=subprocess.PIPE, stderr=w, timeout=2 * PATIENCE
@@ -292,7 +298,9 @@ def parts():
             found = lambda: server_and_helper(p.pid)
             step("all its parts", until(lambda: len(own_of(p.pid)) == 3 and len(found()) == 2), own_of(p.pid))
             # where the kernel shares processors out among sessions, the program's processes don't leave them less
-            same("each leads a session", [session_of(n) == n for n in own_of(p.pid)], [True] * 3)
+            # (the program may begin before the companion leads one)
+            lead = lambda: [session_of(n) == n for n in own_of(p.pid)]
+            step("each leads a session", until(lambda: lead() == [True] * 3), lead())
             if not is_heard:
                 os.close(r)
             os.kill(found()[part == "helper"], signal.SIGKILL)

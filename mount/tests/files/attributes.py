@@ -3,7 +3,9 @@ import ctypes
 import errno
 import os
 import stat
+import sys
 
+sys.path.insert(0, os.path.dirname(os.path.dirname(os.path.realpath(__file__))))
 from support import AT, Mount, error_of, finish, inside, libc, run_each, same, step, write
 
 
@@ -35,6 +37,20 @@ def kept():
             size = libc.getxattr(where.encode(), b"user.x", buffer, room)
             same("%s: into %d bytes" % (name, room), (size, buffer.raw[:1]), (1, wanted))
         step("%s: another name space" % name, error_of(os.setxattr, where, "security.x", b"1") in ("ENOTSUP", "EPERM"))
+    # of files as nobody's kernfs: who may not write a file may not change its attributes, who may not read it sees none
+    for name, sets, gets in (
+        ("cgroup.procs", "ok", "ok"),
+        ("cgroup.events", "EACCES", "ok"),
+        ("cgroup.kill", "ok", "EACCES"),
+    ):
+        if os.geteuid() == 0:
+            sets = gets = "ok"
+        where = m.path("a", name)
+        got = [error_of(os.setxattr, where, "user.y", b"1"), error_of(os.removexattr, where, "user.y")]
+        same("%s: setting and removing" % name, got, [sets] * 2)
+        absent = gets if gets != "ok" else "ENODATA"
+        same("%s: getting" % name, error_of(os.getxattr, where, "user.y"), absent)
+        same("%s: the list" % name, os.listxattr(where), [])
     same("an attribute of a group sends no line", "user" in open(m.trace).read(), False)
     for name in ("use", "users.x", "system.x", "system.makhloeum.group", "makhloeum"):
         for call, *value in ((os.setxattr, b"1"), (os.getxattr,), (os.removexattr,)):
@@ -73,7 +89,7 @@ def bounds():
     same("in a group that is full of bytes too", error_of(os.setxattr, m.path("a", "pids.max"), "user.n", b"v"), "ok")
     got = [error_of(os.setxattr, m.path("b", "cgroup.procs"), "user.n%d" % i, b"v") for i in range(129)]
     same("128 names of a file", (got[:128], got[128]), (["ok"] * 128, "ENOSPC"))
-    same("another file", error_of(os.setxattr, m.path("b", "cgroup.stat"), "user.n", b"v"), "ok")
+    same("another file", error_of(os.setxattr, m.path("b", "cgroup.max.depth"), "user.n", b"v"), "ok")
     sized("a value", b"x" * 65536, lambda to, size: libc.getxattr(m.path("a").encode(), b"user.large2", to, size))
     os.mkdir(m.path("c"))
     os.setxattr(m.path("c"), "user.x", b"1")

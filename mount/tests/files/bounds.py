@@ -3,6 +3,7 @@ tables on a mount, `bounds.py kernel` those of the files that every kernel has o
 import os
 import sys
 
+sys.path.insert(0, os.path.dirname(os.path.dirname(os.path.realpath(__file__))))
 from on_kernel import new_group
 from support import Mount, error_of, finish, read, same, step, write
 

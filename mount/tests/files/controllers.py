@@ -1,9 +1,11 @@
 """--keep: which controllers a group has, and that groups which enable them for their children have no processes."""
+import itertools
 import os
 import select
 import subprocess
 import sys
 
+sys.path.insert(0, os.path.dirname(os.path.dirname(os.path.realpath(__file__))))
 from support import AT, PATIENCE, PROGRAM, Mount, clone_into, error_of, finish, into, read, same, write
 
 ME = os.path.realpath(__file__)
@@ -24,6 +26,9 @@ def enabling():
     same("its children none", text_of(m, "cgroup.subtree_control"), "")
     os.mkdir(m.path("a"))
     same("a child then", (text_of(m, "a", "cgroup.controllers"), text_of(m, "a", "cgroup.subtree_control")), ("", ""))
+    for name in ("cgroup.controllers", "cgroup.subtree_control"):
+        path = m.path("a", name)
+        same("%s without one has no byte" % name, (read(path), os.stat(path).st_size), (b"", 0))
     same("no file of pids", error_of(read, m.path("a", "pids.max")), "ENOENT")
     same("nor is one listed", [n for n in os.listdir(m.path("a")) if not n.startswith("cgroup.")], ["cpu.stat"])
     same("cpu.stat without cpu", text_of(m, "a", "cpu.stat"), "usage_usec 0\nuser_usec 0\nsystem_usec 0")
@@ -293,6 +298,53 @@ def each_one():
     m.end()
 
 
+def several():
+    """Two controllers that one write disables: both lose what they have and their open files, and the others nothing."""
+    m = Mount("--keep", KEPT)
+    every = "+cpuset +cpu +io +memory +pids"
+    change(m, ".", every)
+    os.mkdir(m.path("a"))
+    files = {"cpuset": "cpuset.cpus", "cpu": "cpu.max", "io": "io.weight", "memory": "memory.max", "pids": "pids.max"}
+    values = {"cpuset": "0", "cpu": "5000 100000", "io": "default 7", "memory": "1048576", "pids": "9"}
+    fresh = {name: text_of(m, "a", file) for name, file in files.items()}
+    for one, other in itertools.permutations(files, 2):
+        for name, file in files.items():
+            write(m.path("a", file), values[name].encode())
+        held = {name: os.open(m.path("a", file), os.O_RDONLY) for name, file in files.items()}
+        words = "-%s -%s" % (one, other)
+        same(words, change(m, ".", words), "ok")
+        there = {name for name, file in files.items() if os.path.exists(m.path("a", file))}
+        same("%s: whose files are there" % words, there, files.keys() - {one, other})
+        change(m, ".", every)
+        now = {name: text_of(m, "a", file) for name, file in files.items()}
+        same("%s: the values then" % words, now, {**values, one: fresh[one], other: fresh[other]})
+        gone = {name for name, fd in held.items() if error_of(os.pread, fd, 99, 0) == "ENODEV"}
+        same("%s: whose open files are gone for good" % words, gone, {one, other})
+        for fd in held.values():
+            os.close(fd)
+    m.end()
+
+
+def undone():
+    """A group whose only process ends is a domain, and none once the exit is undone."""
+    m = with_a_process()
+    change(m, "a", "+pids")
+    write(m.path("a", "cgroup.procs"), b"1\n")
+    types = lambda: (text_of(m, "a", "cgroup.type"), text_of(m, "a", "b", "cgroup.type"))
+    for what, call, wanted in (
+        ("one of two moves", lambda: write(m.path("cgroup.procs"), b"1\n"), ("domain threaded", "domain invalid")),
+        ("the other ends", lambda: write(m.control("exit"), b"2\n"), ("domain", "domain")),
+        ("its end is undone", lambda: write(m.control("undo"), b"\n"), ("domain threaded", "domain invalid")),
+        ("it ends again", lambda: write(m.control("exit"), b"2\n"), ("domain", "domain")),
+    ):
+        call()
+        same("the type after %s" % what, types(), wanted)
+    same("and then memory may be enabled", change(m, "a", "-pids +memory"), "ok")
+    write(m.control("undo"), b"\n")
+    same("beside a process that came back, no more are enabled", change(m, "a", "+cpu"), "EBUSY")
+    m.end()
+
+
 def without():
     """Without --keep none of this exists."""
     m = Mount("--extra")
@@ -383,6 +435,19 @@ def born():
 if sys.argv[1:] == ["inside"]:
     born()
     finish()
-for test in (enabling, order, lost_pids, internal, threaded, again, each_one, without, refused, under_run):
+for test in (
+    enabling,
+    order,
+    lost_pids,
+    internal,
+    threaded,
+    again,
+    each_one,
+    several,
+    undone,
+    without,
+    refused,
+    under_run,
+):
     test()
 finish()

@@ -12,6 +12,7 @@ import stat
 import subprocess
 import sys
 
+sys.path.insert(0, os.path.dirname(os.path.dirname(os.path.realpath(__file__))))
 from on_kernel import new_group
 from support import PROGRAM, Mount, error_of, finish, libc, same, step
 

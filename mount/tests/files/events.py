@@ -3,7 +3,9 @@ import os
 import select
 import signal
 import struct
+import sys
 
+sys.path.insert(0, os.path.dirname(os.path.dirname(os.path.realpath(__file__))))
 from support import PATIENCE, Beside, Mount, companions_of, error_of, finish, libc, read, same, step, until, write
 
 IN_MODIFY = 0x2

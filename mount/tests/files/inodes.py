@@ -7,6 +7,7 @@ import stat
 import sys
 import time
 
+sys.path.insert(0, os.path.dirname(os.path.dirname(os.path.realpath(__file__))))
 from on_kernel import left_out, new_group
 from support import AT, Mount, error_of, finish, inside, libc, run_each, same, step, write, until
 
@@ -173,6 +174,16 @@ def settings(at):
             ("neither", lambda: set_times(fd, (0, OMIT), (0, OMIT)), {}),
             ("one time, now", lambda: set_times(fd, (0, NOW), (0, OMIT)), {"accessed": None}),
             ("the other, now", lambda: set_times(fd, (0, OMIT), (0, NOW)), {"modified": None}),
+            (
+                "one time now, the other given",
+                lambda: set_times(fd, (0, NOW), (12, 13)),
+                {"accessed": None, "modified": 12 * 10**9 + 13},
+            ),
+            (
+                "one time given, the other now",
+                lambda: set_times(fd, (14, 15), (0, NOW)),
+                {"accessed": 14 * 10**9 + 15, "modified": None},
+            ),
             ("chmod to nothing", lambda: os.chmod(path, 0), {"mode": 0}),
             ("chmod to all", lambda: os.chmod(path, 0o7777), {"mode": 0o7777}),
         ):
@@ -201,6 +212,30 @@ def settings(at):
         os.close(fd)
     os.rmdir(group + "/in")
     os.rmdir(group)
+
+
+def first(at):
+    """The first change of a file sets what it names. The file keeps its own mode and owner, which aren't those of its group. (In the
+    kernel its other times are then those of the change.)"""
+    of_file = lambda f: {k: v for k, v in all_of(os.stat(f)).items() if k not in ("accessed", "modified")}
+    for what, call, sets in (
+        ("an owner", lambda f: os.chown(f, os.geteuid(), -1), {}),
+        ("a group", lambda f: os.chown(f, -1, os.getegid()), {}),
+        ("times", lambda f: os.utime(f, (7, 9)), {}),
+        ("a mode", lambda f: os.chmod(f, 0o604), {"mode": 0o604}),
+    ):
+        group, file = at + "/f", at + "/f/cgroup.procs"
+        os.mkdir(group, 0o710)
+        os.utime(group, (3, 4))
+        before = of_file(file)
+        same("the mode of a file", before["mode"], 0o644)
+        call(file)
+        same("%s is the first change of a file" % what, of_file(file), {**before, **sets})
+        step(
+            "its times are not those of its group", times_of(file) == (7, 9) or min(times_of(file)) > 9, times_of(file)
+        )
+        same("its group is as it was", (stat.S_IMODE(os.stat(group).st_mode), times_of(group)), (0o710, (3, 4)))
+        os.rmdir(group)
 
 
 def times_of(path):
@@ -397,6 +432,9 @@ def look_up_handles(at):
         same("it is the group", os.path.isdir(path + "/new"), True)
         os.rmdir(path + "/new")
     same("a number that nobody has", by_handle(above, 1 << 40) in ("ESTALE", "EPERM"), True)
+    HIDDEN = (1 << 62) + 8  # the directory that only the helper of a run finds
+    told = by_handle(above, HIDDEN)  # ESTALE: outside a run nobody has found it
+    step("nobody lists what a run hides", told in ("EACCES", "EPERM", "ESTALE"), told)
     for fd in opened:
         os.close(fd)
 
@@ -466,7 +504,7 @@ def control():
 
 
 inside(unknown_in_a_run)
-ON_BOTH = (listed, numbered, modes, owned, settings, timed, removed, continued, handled)
+ON_BOTH = (listed, numbered, modes, owned, settings, first, timed, removed, continued, handled)
 if sys.argv[1:] == ["kernel"]:
     with new_group() as group:
         for test in ON_BOTH if group else ():

@@ -1,13 +1,18 @@
-"""What Linux answered (evidence/linux), and what the mount answers: each line of the traces is one operation on a file or a
+"""What Linux answered (evidence/linux-6.12), and what the mount answers: each line of the traces is one operation on a file or a
 directory, and its errno and its text are Linux's."""
-import glob
 import os
 import re
 import shutil
+import sys
 
+sys.path.insert(0, os.path.dirname(os.path.dirname(os.path.realpath(__file__))))
 from support import Mount, error_of, finish, read, same, step, write
 
-HERE = os.path.join(os.path.dirname(os.path.realpath(__file__)), "..", "..", "evidence", "linux")
+HERE = os.path.join(os.path.dirname(os.path.realpath(__file__)), "..", "..", "..", "evidence", "linux-6.12")
+# mount/test copies the reader beside the recordings
+sys.path.append(os.path.dirname(HERE))
+import recordings  # noqa: E402
+
 # What the record says, and the errno for it.
 ERRNO = {
     "ok": {"ok"},
@@ -28,19 +33,14 @@ ERRNO = {
 BOUNDS = {"EINVAL", "ENAMETOOLONG", "EAGAIN", "ENOENT", "ENOSPC"}
 
 
-def text_of(path):
-    with open(path, encoding="latin1", newline="") as it:
-        return it.read()
-
-
-def commands(path):
-    lines = (re.findall(r"[^ \t\r]+", line) for line in text_of(path).split("\n"))
+def commands(trace):
+    lines = (re.findall(r"[^ \t\r]+", line) for line in trace.decode("latin1").split("\n"))
     return [words for words in lines if words and not words[0].startswith("#")]
 
 
-def replies(path):
+def replies(answers):
     found = []
-    for line in text_of(path).split("\n"):
+    for line in answers.decode("latin1").split("\n"):
         if line.startswith("| "):
             found[-1][1].append(line[2:])
         elif line:
@@ -82,9 +82,10 @@ def agrees(words, got, wanted):
 
 
 played = bounded = 0
-for trace in sorted(glob.glob(os.path.join(HERE, "*", "*.trace"))):
-    name = os.path.relpath(trace, HERE)
-    lines, wanted = commands(trace), replies(trace[:-5] + "kernel")
+recorded = [(kind, it) for kind in ("random", "rows", "text", "undone") for it in recordings.of_set(HERE, kind)]
+for kind, recording in recorded:
+    name = "%s/%s" % (kind, recording.name)
+    lines, wanted = commands(recording.trace), replies(recording.answers)
     if len(lines) != len(wanted):
         step("%s has an answer for each line" % name, False)
         continue

@@ -1,7 +1,9 @@
 """A read at an offset gives the text from there, as seq files of the kernel do."""
 import os
 import subprocess
+import sys
 
+sys.path.insert(0, os.path.dirname(os.path.dirname(os.path.realpath(__file__))))
 from support import Mount, finish, read, same, step, write
 
 m = Mount()

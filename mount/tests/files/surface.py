@@ -10,6 +10,7 @@ import sys
 import tempfile
 import time
 
+sys.path.insert(0, os.path.dirname(os.path.dirname(os.path.realpath(__file__))))
 from on_kernel import new_group
 from support import AT, PATIENCE, PROGRAM, Beside, Mount, error_of, finish, libc, read, same, step, write
 
@@ -55,6 +56,10 @@ KEPT_OF_ROOT = {
     "io": {"io.stat": READ},
     "cpuset": {"cpuset.cpus.effective": READ, "cpuset.mems.effective": READ},
 }
+# Of /proc/cgroups, in the kernel's order.
+CONTROLLERS = (
+    "cpuset cpu cpuacct blkio memory devices freezer net_cls perf_event net_prio hugetlb pids rdma misc".split()
+)
 CONTROL = {"fork": WRITTEN, "exit": WRITTEN}
 HISTORY = {**CONTROL, "undo": WRITTEN, "forget": WRITTEN, "depth": READ, "newest": READ, "trace": READ}
 
@@ -260,7 +265,18 @@ def as_in_a_kernel(where, path):
         same("%s: links and device of %s" % (where, os.path.basename(at)), (st.st_nlink, st.st_rdev), (links, 0))
 
 
+def no_empty_line(where, path):
+    """A list of controllers has a line feed only if there is one."""
+    for name in ("cgroup.controllers", "cgroup.subtree_control"):
+        text = read(os.path.join(path, name))
+        step("%s: %s" % (where, name), text == b"" or re.fullmatch(rb"\w+( \w+)*\n", text), text)
+
+
 def of_system():
+    m = Mount("--keep", "cpu")
+    os.mkdir(m.path("g"))
+    no_empty_line("mount", m.path("g"))
+    m.end()
     m = Mount()
     os.mkdir(m.path("g"))
     as_in_a_kernel("mount", m.path("g"))
@@ -294,6 +310,7 @@ def inside(user, group, space):
         kind = stat.S_IFREG | 0o644 if "." in path else stat.S_IFDIR | 0o755
         same("owner and mode of " + path, (st.st_uid, st.st_gid, st.st_mode), (*me, kind))
     as_in_a_kernel("run", AT + "/g")
+    no_empty_line("run", AT + "/g")
     same("every file of the root", modes(AT), {**OF_ROOT, **EXTRA_OF_ROOT, "g": "directory"})
     same("of a group", modes(AT + "/g"), {**OF_GROUPS, **OF_PIDS, **EXTRA})
     same("no control directory", error_of(os.stat, AT + "/.makhloeum"), "ENOENT")
@@ -309,7 +326,8 @@ def inside(user, group, space):
     same(
         "/proc/cgroups",
         open("/proc/cgroups").read(),
-        "#subsys_name\thierarchy\tnum_cgroups\tenabled\npids\t0\t1\t1\n",
+        "#subsys_name\thierarchy\tnum_cgroups\tenabled\n"
+        + "".join("%s\t0\t1\t%d\n" % (name, name == "pids") for name in CONTROLLERS),
     )
     hidden()
     me = os.getpid()
@@ -387,6 +405,10 @@ def hidden():
         same("the mode of " + name, (stat.S_ISREG(st.st_mode), stat.S_IMODE(st.st_mode)), (True, READ))
         made = (error_of(os.mkdir, path), error_of(os.rmdir, path), error_of(os.unlink, path))
         same("nobody makes or removes it", made, ("EEXIST", "ENOTDIR", "EPERM"))
+    hidden = AT + "/.makhloeum.d"
+    found = (error_of(os.stat, hidden), error_of(os.mkdir, hidden), error_of(os.listdir, hidden))
+    same("the directory of the helper is not found", found, ("ENOENT", "EPERM", "ENOENT"))
+    same("it has it all the same", read("/proc/self/cgroup"), b"0::/\n")
     names = (".makhloeum.x", ".makhloeum.1.x", ".makhloeum.4194304.0", ".makhloeum.", ".makhloeumx")
     for name in names:
         same(
@@ -575,6 +597,7 @@ if sys.argv[1:] == ["kernel"]:
     with new_group() as group:
         if group:
             as_in_a_kernel("the kernel", group)
+            no_empty_line("the kernel", group)
     finish()
 for test in (every_file, control, names, most, of_system, made, under_run, tables, over, other):
     test()

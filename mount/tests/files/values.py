@@ -4,6 +4,7 @@ import os
 import subprocess
 import sys
 
+sys.path.insert(0, os.path.dirname(os.path.dirname(os.path.realpath(__file__))))
 from support import AT, PATIENCE, PROGRAM, Mount, error_of, finish, inside, read, same, step, write
 
 ME = os.path.realpath(__file__)

@@ -4,7 +4,9 @@ import os
 import random
 import select
 import struct
+import sys
 
+sys.path.insert(0, os.path.dirname(os.path.dirname(os.path.realpath(__file__))))
 from support import Mount, error_of, finish, libc, read, same, step, until, write
 
 IN_MODIFY, WATCHED = 0x2, 0x40E  # and other changes of the file; not opens and reads, which are of this test

@@ -4,8 +4,10 @@ Two mounts take the same forks and exits in turn, and only in one of them such f
 time of the servers, the least of ten turns, which other programs on the machine hardly change. A change that looked at all these
 files would cost some hundred times as much."""
 import os
+import sys
 import time
 
+sys.path.insert(0, os.path.dirname(os.path.dirname(os.path.realpath(__file__))))
 from support import Mount, finish, read, step
 
 PAIRS, GROUPS, TURNS = 500, 1000, 10

@@ -9,6 +9,7 @@ import tempfile
 import time
 import uuid
 
+sys.path.insert(0, os.path.dirname(os.path.dirname(os.path.realpath(__file__))))
 from support import AT, BUILT, CGREPLAY, PATIENCE, PROGRAM
 from support import finish, in_parallel, into, line_of, read, same, status_within, step, until, write
 

@@ -15,12 +15,13 @@ import sys
 import tempfile
 import time
 
+sys.path.insert(0, os.path.dirname(os.path.dirname(os.path.realpath(__file__))))
 from support import AT, BUILT, PATIENCE, PROGRAM, Beside, Mount, companions_of
-from support import clone_into, error_of, finish, in_parallel, into, libc, line_of, own_of, read, rests, same
-from support import status_within, step, tracer, until, write
+from support import clone_into, error_of, finish, in_parallel, into, libc, line_of, own_of, read, rests
+from support import run_beside_stalled, same, status_within, step, tracer, until, write
 
 ME = os.path.realpath(__file__)
-BLOCKING, STALLED = os.path.join(BUILT, "blocking"), os.path.join(BUILT, "stalled")
+BLOCKING = os.path.join(BUILT, "blocking")
 PAGE = os.environ.get("PAGE", "")
 SLOW_KILL = os.path.join(os.path.dirname(PROGRAM), "slow_kill.so")  # only with the plain build
 PF_EXITING = 4
@@ -121,6 +122,8 @@ def listing():
     step("a directory is held", held)
     asking = Beside(clone_into, gone)
     step("others still run", forks())
+    same("and read their group", Beside(read, "/proc/self/cgroup").result(), b"0::/\n")
+    step("and the mounts", b" cgroup2 " in (Beside(read, "/proc/self/mounts").result() or b""))
     same("a call that began before", asking.result(), "ENOENT")
     same("a call into a removed group", clone_into(gone), "ENOENT")
     same("a call into another group", clone_into(stays), 0)
@@ -444,6 +447,20 @@ def elsewhere():
     step("they take at most five times the processor time of others", cost <= 5 * usual, (cost, usual))
 
 
+def signal_mounting(which, others):
+    """Sends it to each process that mounts for the program and is seen: how many these were."""
+    seen, end = 0, time.monotonic() + PATIENCE
+    while time.monotonic() < end and seen < 50:
+        for name in [t + "/children" for p in others for t in glob.glob("/proc/%d/task/*" % p)]:
+            try:
+                for child in open(name).read().split():
+                    os.kill(int(child), which)
+                    seen += 1
+            except (OSError, ProcessLookupError):
+                pass
+    return seen
+
+
 def mounting():
     """The process that mounts for the program is stopped whenever it is seen."""
     home = tempfile.mkdtemp()
@@ -456,16 +473,7 @@ def mounting():
         libc.umount2((home + "/at").encode(), 2)
         with open(count, "a") as f:
             f.write("x")
-    seen, end = 0, time.monotonic() + PATIENCE
-    files = [t + "/children" for p in others for t in glob.glob("/proc/%d/task/*" % p)]
-    while time.monotonic() < end and seen < 50:
-        for name in files:
-            try:
-                for child in open(name).read().split():
-                    os.kill(int(child), signal.SIGSTOP)
-                    seen += 1
-            except (OSError, ProcessLookupError):
-                pass
+    seen = signal_mounting(signal.SIGSTOP, others)
     step("some were stopped", seen > 0, seen)
     # the first mount may not have ended yet
     mounted = lambda: os.path.getsize(count) if os.path.exists(count) else 0
@@ -473,6 +481,26 @@ def mounting():
     step("the program still mounts", until(lambda: mounted() > size + 10))
     os.kill(pid, signal.SIGKILL)
     os.waitpid(pid, 0)
+
+
+def unmade():
+    """The process that mounts for the program is killed whenever it is seen: no mount that is not there is said to be."""
+    at = tempfile.mkdtemp()
+    others = own_of(tracer())
+    r, w = os.pipe()
+    pid = os.fork()
+    while pid == 0:
+        made = libc.mount(b"none", at.encode(), b"cgroup2", 0, None)
+        there = libc.umount2(at.encode(), 2)
+        if made == 0 and there != 0:
+            os.write(w, b"x")
+            os._exit(0)
+    os.close(w)
+    seen = signal_mounting(signal.SIGKILL, others)
+    step("some were killed", seen > 0, seen)
+    os.kill(pid, signal.SIGKILL)
+    os.waitpid(pid, 0)
+    same("mounts that are not there", os.read(r, 1), b"")
 
 
 INSIDE = {
@@ -496,6 +524,7 @@ INSIDE = {
     stopping: [],
     elsewhere: ["--root"],
     mounting: ["--root"],
+    unmade: ["--root"],
 }
 if sys.argv[1:2] == ["inside"]:
     {t.__name__: t for t in INSIDE}[sys.argv[2]]()
@@ -508,28 +537,9 @@ if sys.argv[1:2] == ["inside"]:
 
 
 def run(test):
-    """The file system of a run that hangs goes first: until then a process that waits for it cannot be killed."""
-    home = tempfile.mkdtemp()
-    system = subprocess.Popen([STALLED, home], stderr=subprocess.DEVNULL)
-    if not until(lambda: os.path.ismount(home)):
-        step("%s: a file system that does not answer can be mounted" % test.__name__, False)
-        return
+    words = [PROGRAM, "run", *INSIDE[test], sys.executable, ME, "inside", test.__name__]
     slow = {"LD_PRELOAD": SLOW_KILL} if test is stopping and os.path.exists(SLOW_KILL) else {}
-    p = subprocess.Popen(
-        [PROGRAM, "run", *INSIDE[test], sys.executable, ME, "inside", test.__name__],
-        start_new_session=True,
-        env=dict(os.environ, PAGE=home + "/page", **slow),
-    )
-    try:
-        status = p.wait(6 * PATIENCE)
-    except subprocess.TimeoutExpired:
-        status = "it hangs"
-        p.kill()
-    system.kill()
-    subprocess.run(["fusermount3", "-u", "-q", "-z", home])
-    system.wait()
-    p.wait()
-    same("%s: its status" % test.__name__, status, 0)
+    run_beside_stalled(test.__name__, words, **slow)
 
 
 def unmounted():
@@ -577,13 +587,13 @@ def queued():
     with socket.socket(socket.AF_UNIX, socket.SOCK_SEQPACKET) as one:
         room = one.getsockopt(socket.SOL_SOCKET, socket.SO_SNDBUF)
     leaves = ["%s/%03d%s" % (above, i, "n" * 250) for i in range(room // len(above) + 10)]
-    for name in ("mark", "last", "next"):
+    for name in ("mark", "last", "next", "other"):
         os.mkdir(m.path(name))
     os.makedirs(m.path(above))
     watch, names = libc.inotify_init(), {}
     for name in leaves:
         os.mkdir(m.path(name))
-    for name in (*leaves, "next", "mark"):
+    for name in (*leaves, "next", "other", "mark"):
         names[libc.inotify_add_watch(watch, m.path(name, "cgroup.events").encode(), 2)] = name  # IN_MODIFY
     os.stat(m.path("last", "cgroup.events"))
     companions = companions_of(m.process.pid)
@@ -597,7 +607,8 @@ def queued():
     write(m.path(above, "cgroup.freeze"), b"1")
     write(m.path("last", "cgroup.freeze"), b"1")
     os.rmdir(m.path("last"))
-    write(m.path("next", "cgroup.freeze"), b"1")
+    for name, value in (("next", b"1"), ("other", b"1"), ("next", b"0")):
+        write(m.path(name, "cgroup.freeze"), value)
     for pid in companions:
         os.kill(pid, signal.SIGCONT)
     write(m.path("mark", "cgroup.freeze"), b"1")
@@ -607,7 +618,8 @@ def queued():
         if not events:
             break
         told += [names[number] for number, *_ in struct.iter_unpack("iIII", events)]
-    same("reported, in order", ([x for x in told if x not in leaves], told[-2:]), (["next", "mark"],) * 2)
+    in_order = ["next", "other", "mark"]
+    same("reported once, in order", ([x for x in told if x not in leaves], told[-3:]), (in_order, in_order))
     same("not reported", [x[-253:-247] for x in leaves if x not in told], [])
     os.close(watch)
     m.end()
@@ -661,7 +673,29 @@ def callers():
         )
 
 
-OUTSIDE = (unmounted, stuck, queued, killed, callers)
+def idle():
+    """A program that waits leaves no thread of makhloeum at work: each waits for an event, and none for a time."""
+    p = subprocess.Popen([PROGRAM, "run", "sh", "-c", "cat /proc/self/cgroup; exec sleep 600"], stdout=subprocess.PIPE)
+    same("it runs", p.stdout.readline(), b"0::/\n")
+
+    def wakes():
+        """How often each thread has waited so far."""
+        status = glob.glob("/proc/%d/task/*/status" % p.pid)
+        status += [path for pid in own_of(p.pid) for path in glob.glob("/proc/%d/task/*/status" % pid)]
+        found = (re.search(r"^voluntary_ctxt_switches:\s+(\d+)$", open(path).read(), re.M) for path in status)
+        return [int(times[1]) for times in found]
+
+    def rest():
+        before = wakes()
+        time.sleep(0.25)
+        return wakes() == before
+
+    step("its %d threads rest" % len(wakes()), until(rest), wakes())
+    p.send_signal(signal.SIGTERM)
+    same("its status", status_within(p), 128 + signal.SIGTERM)
+
+
+OUTSIDE = (unmounted, stuck, queued, killed, callers, idle)
 wanted = [t for t in (*INSIDE, *OUTSIDE) if t.__name__ in sys.argv[1:] or not sys.argv[1:]]
 in_parallel(lambda t: run(t) if t in INSIDE else t(), wanted)
 finish()

@@ -9,6 +9,7 @@ import subprocess
 import sys
 import tempfile
 
+sys.path.insert(0, os.path.dirname(os.path.dirname(os.path.realpath(__file__))))
 from support import AT, BUILT, CGREPLAY, PATIENCE, PROGRAM
 from support import error_of, finish, into, libc, own_of, read, same, status_within, step, tracer, until, write
 
@@ -234,7 +235,8 @@ def texts():
     ):
         lines = [x for x in error_text(name).splitlines() if AT in x.split()]
         step("%s shows one mount there, of type cgroup2" % name, len(lines) == 1 and "fuse" not in lines[0], lines)
-    same("/proc/cgroups", [x.split()[0] for x in error_text("/proc/cgroups").splitlines()], ["#subsys_name", "pids"])
+    lines = [x.split() for x in error_text("/proc/cgroups").splitlines()]
+    same("/proc/cgroups", [x[0] for x in lines if x[3] in ("enabled", "1")], ["#subsys_name", "pids"])
     same(
         "no io_uring, which opens unseen",
         (libc.syscall(425, 1, ctypes.create_string_buffer(120)), ctypes.get_errno()),

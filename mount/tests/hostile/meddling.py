@@ -12,6 +12,7 @@ import sys
 import threading
 import time
 
+sys.path.insert(0, os.path.dirname(os.path.dirname(os.path.realpath(__file__))))
 from support import AT, BUILT, PATIENCE, PROGRAM
 from support import error_of, finish, in_parallel, into, libc, line_of, own_of, read, same, status_within, step
 from support import tracer, until, write
@@ -191,24 +192,6 @@ def flooded():
         os.waitpid(pid, 0)
 
 
-def passed_on():
-    """The program gets the signals that are sent to the supervisor, and runs in between however often they come."""
-    got = []
-    signal.signal(signal.SIGHUP, lambda *_: got.append(time.monotonic()))
-    supervisor, begin = tracer(), time.monotonic()
-    for count in (1, 2, 3):
-        os.kill(supervisor, signal.SIGHUP)
-        step("signal %d comes" % count, until(lambda: len(got) == count), got)
-    flood = os.fork()
-    while flood == 0:
-        os.kill(supervisor, signal.SIGHUP)
-    step("they still come", until(lambda: len(got) >= 10), got)
-    os.kill(flood, signal.SIGKILL)
-    os.waitpid(flood, 0)
-    signal.signal(signal.SIGHUP, signal.SIG_IGN)  # the last may come after the end of this test
-    step("at most ten in a second", len(got) <= 10 * (time.monotonic() - begin) + 2, (len(got), got[-1] - begin))
-
-
 def untold():
     """The one that tells inotify is killed: nothing else depends on it."""
     fd = os.open(AT + "/a/cgroup.events", os.O_RDONLY)
@@ -323,7 +306,7 @@ def tables():
     step("then there is room again", until(lambda: error_of(read, "/proc/self/mounts") == "ok"))
 
 
-INSIDE = (unshares, crowds, unread, writers, stopped, limited, flooded, passed_on, untold, calls, lists, tables)
+INSIDE = (unshares, crowds, unread, writers, stopped, limited, flooded, untold, calls, lists, tables)
 LIMITS = {
     tables: ((resource.RLIMIT_NOFILE, (256, 256)),),
     crowds: ((resource.RLIMIT_NOFILE, (40, 4096)),),  # of its processes makhloeum raises it

@@ -9,6 +9,7 @@ import sys
 import tempfile
 import threading
 
+sys.path.insert(0, os.path.dirname(os.path.dirname(os.path.realpath(__file__))))
 from support import AT, BUILT, PATIENCE, PROGRAM, error_of, finish, inside, into, read, run_each, same, step, until
 from support import write
 
@@ -32,6 +33,7 @@ def marks():
     )
     into("/a")
     same("calls that the supervisor does not stop, and do not fail with ENOSYS", said("marks"), [])
+    same("no clone passes the program's filter for what the supervisor makes of a clone3", said("passes"), [b"77"] * 3)
     same("the root of a namespace is where it was", reader.communicate(b"\n")[0], b"0::/\n")
     same("seen from the group too", read("/proc/self/cgroup"), b"0::/a\n")
 

@@ -8,6 +8,7 @@ import subprocess
 import sys
 import threading
 
+sys.path.insert(0, os.path.dirname(os.path.dirname(os.path.realpath(__file__))))
 from support import AT, PATIENCE, PROGRAM, Mount, error_of, finish, libc, read, same, status_within, step, tracer, write
 
 ME = os.path.realpath(__file__)
@@ -82,6 +83,13 @@ def of_mount():
         os.close(fd)  # of one that is open the kernel remembers the inodes
         os.rmdir(h + "/r")
 
+    def watched_and_removed():
+        for _ in range(5):  # more than memory that was free before
+            os.mkdir(m.path("r"))
+            for name in ("cgroup.events", "pids.events", "pids.events.local"):
+                os.stat(m.path("r", name))
+            os.rmdir(m.path("r"))
+
     def values_of_a_removed_group():
         os.mkdir(k + "/r")
         # so many that they are more than memory that was free before
@@ -133,6 +141,7 @@ def of_mount():
             lambda: (error_of(os.mkdir, g), error_of(os.mkdir, g + "/a b"), error_of(os.rmdir, m.path("none"))),
         ),
         ("what is left of a group", removed),
+        ("what is told of a group", watched_and_removed),
         ("values of a group", values_of_a_removed_group),
         ("a controller", switched),
         (
@@ -198,6 +207,15 @@ def inside():
         libc.mount(b"none", home.encode(), b"cgroup2", 0, None)
         libc.umount2(home.encode(), 2)
 
+    def stepwise():
+        context = libc.syscall(430, b"cgroup2", 0)
+        libc.syscall(431, context, 6, None, None, 0)  # FSCONFIG_CMD_CREATE
+        top = libc.syscall(432, context, 0, 0)
+        libc.syscall(429, top, b"", -100, home.encode(), 4)
+        libc.umount2(home.encode(), 2)
+        for fd in (context, top):
+            os.close(fd)
+
     def of_another():
         libc.mount(b"none", home.encode(), b"tmpfs", 0, None)
         libc.umount2(home.encode(), 2)
@@ -234,7 +252,8 @@ def inside():
         ("mounts of cgroup2", mounted),
         ("mounts of tmpfs", of_another),
         ("mounts that are refused", lambda: libc.mount(b"none", b"/nowhere", b"cgroup2", 0, None)),
-        ("fsopen that is refused", lambda: libc.syscall(430, b"cgroup2", 0)),
+        ("fsopen that is refused", lambda: libc.syscall(430, b"cgroup", 0)),
+        ("fsopen of cgroup2", stepwise),
         ("fsopen", lambda: os.close(libc.syscall(430, b"tmpfs", 0))),
         ("ptrace that is refused", lambda: libc.ptrace(0x4206, 1, 0, 0)),
         ("groups", lambda: (os.mkdir(AT + "/a/b"), os.rmdir(AT + "/a/b"))),

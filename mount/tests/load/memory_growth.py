@@ -3,6 +3,7 @@ import os
 import subprocess
 import sys
 
+sys.path.insert(0, os.path.dirname(os.path.dirname(os.path.realpath(__file__))))
 from support import PROGRAM, Mount, finish, in_parallel, same, status_within, step
 
 # With an arena for each thread the memory grows until each has had its turn with the most records.

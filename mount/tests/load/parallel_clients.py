@@ -1,8 +1,10 @@
 """Eight writers and two readers in parallel, in threads of libfuse: the trace is one order of what they did."""
 import os
 import random
+import sys
 import threading
 
+sys.path.insert(0, os.path.dirname(os.path.dirname(os.path.realpath(__file__))))
 from support import PATIENCE, Mount, error_of, finish, read, same, step, write
 
 ROUNDS = 300

@@ -1,13 +1,15 @@
-"""What is looked at and what is changed then stay under one lock; and a mount that cannot begin is not left in place.
+"""Races between clients: what is checked and what is changed then stay under one lock. And a mount that cannot begin is not left in place.
 Each needs a library that is loaded before libc, so only the plain build runs it."""
 import ctypes
 import os
 import stat
 import subprocess
+import sys
 import tempfile
 import threading
 import time
 
+sys.path.insert(0, os.path.dirname(os.path.dirname(os.path.realpath(__file__))))
 from support import PATIENCE, PROGRAM, Mount, error_of, finish, libc, same, step, write
 
 HERE = os.path.dirname(PROGRAM)

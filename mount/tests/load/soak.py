@@ -1,7 +1,9 @@
 """Thirty-two threads in parallel for SOAK seconds; then the kept trace replays to the same bytes."""
 import os
 import subprocess
+import sys
 
+sys.path.insert(0, os.path.dirname(os.path.dirname(os.path.realpath(__file__))))
 from support import CGREPLAY, CGSHELL, PROGRAM, Mount, finish, same, step
 
 SECONDS = os.environ.get("SOAK") or "6"

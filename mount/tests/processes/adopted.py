@@ -6,6 +6,7 @@ import signal
 import subprocess
 import sys
 
+sys.path.insert(0, os.path.dirname(os.path.dirname(os.path.realpath(__file__))))
 from support import PATIENCE, Beside, Mount
 from support import error_of, finish, is_alive, libc, parent_of, read, same, spared, step, until, write
 

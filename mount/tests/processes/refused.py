@@ -7,9 +7,11 @@ import resource
 import select
 import signal
 import subprocess
+import sys
 import threading
 import time
 
+sys.path.insert(0, os.path.dirname(os.path.dirname(os.path.realpath(__file__))))
 from support import AT, BUILT, PATIENCE, error_of, finish, inside, into, libc, read, rests, run_each, same, step
 from support import tracer, until, write
 
@@ -18,6 +20,7 @@ CLONE = 56 if os.uname().machine == "x86_64" else 220
 THREAD, SIGHAND, VM, FS = 0x10000, 0x800, 0x100, 0x200
 NEWNS, NEWCGROUP, NEWUSER, NEWPID = 0x20000, 0x2000000, 0x10000000, 0x20000000
 INTO, TIMES, ROOM = 0x200000000, 50, 4
+PARENT, PAGES = 0x8000, (1 << 64) - 4096
 
 
 def clone(flags, *more):
@@ -27,11 +30,19 @@ def clone(flags, *more):
 
 
 def clone3(flags, size=88, **fields):
-    at = {"set_tid": 8, "set_tid_size": 9, "cgroup": 10, "parent_tid": 3, "pidfd": 1, "exit_signal": 4, "stack": 5}
+    names = (
+        "flags pidfd child_tid parent_tid exit_signal stack stack_size tls set_tid set_tid_size cgroup after".split()
+    )
+    at = {name: i for i, name in enumerate(names)}
     args = (ctypes.c_uint64 * 600)(flags, 0, 0, 0, signal.SIGCHLD)
     for name, value in fields.items():
         args[at[name]] = value
     return ended(libc.syscall(435, args, size))
+
+
+def thread_into(fd):
+    """It makes none, so the stack is nobody's."""
+    return clone3(INTO | THREAD | SIGHAND | VM, exit_signal=0, stack=4096, stack_size=4096, cgroup=fd)
 
 
 def ended(pid):
@@ -96,8 +107,20 @@ def ways():
         ("clone3, CLONE_NEWCGROUP", "EPERM", lambda: clone3(NEWCGROUP)),
         ("clone3, CLONE_SIGHAND", "EINVAL", lambda: clone3(SIGHAND)),
         ("clone3, a stack without a size", "EINVAL", lambda: clone3(0, stack=4096)),
+        ("clone3, a size without a stack", "EINVAL", lambda: clone3(0, stack_size=4096)),
+        ("clone3, a stack beyond all memory", "EINVAL", lambda: clone3(0, stack=PAGES, stack_size=4096)),
+        ("clone3, a stack that is the kernel's", "EINVAL", lambda: clone3(0, stack=1 << 63, stack_size=4096)),
         ("clone3, an unknown flag", "EINVAL", lambda: clone3(1 << 40)),
+        ("clone3, CLONE_DETACHED", "EINVAL", lambda: clone3(0x400000)),
+        ("clone3, a signal in the flags", "EINVAL", lambda: clone3(signal.SIGCHLD)),
+        ("clone3, both rules for handlers", "EINVAL", lambda: clone3(1 << 32 | SIGHAND | VM)),
+        ("clone3, a thread with a signal", "EINVAL", lambda: clone3(THREAD | SIGHAND | VM)),
+        ("clone3, a sibling with a signal", "EINVAL", lambda: clone3(PARENT)),
         ("clone3, a signal", "EINVAL", lambda: clone3(0, exit_signal=65)),
+        ("clone3, a long signal", "EINVAL", lambda: clone3(0, exit_signal=1 << 32 | signal.SIGCHLD)),
+        ("clone3, a set_tid of none", "EINVAL", lambda: clone3(0, set_tid=8)),
+        ("clone3, no set_tid of one", "EINVAL", lambda: clone3(0, set_tid_size=1)),
+        ("clone3, a set_tid of 33", "EINVAL", lambda: clone3(0, set_tid=8, set_tid_size=33)),
         ("clone3, 63 bytes", "EINVAL", lambda: clone3(0, 63)),
         ("clone3, 4,097 bytes", "E2BIG", lambda: clone3(0, 4097)),
         ("clone3, 96 bytes", "ENOSYS", lambda: clone3(0, 96)),
@@ -111,6 +134,9 @@ def ways():
         ("clone3 into a file", "EBADF", lambda: clone3(INTO, cgroup=file)),
         ("clone3 into another file system", "EBADF", lambda: clone3(INTO, cgroup=other)),
         ("clone3 into no descriptor", "EBADF", lambda: clone3(INTO, cgroup=999)),
+        ("clone3 into no number of one", "EINVAL", lambda: clone3(INTO, cgroup=1 << 31)),
+        ("clone3 into a group, a thread", "ENOTSUP", lambda: thread_into(group_b)),
+        ("clone3 into a group, 80 bytes", "EINVAL", lambda: clone3(INTO, 80, cgroup=group_b)),
         ("clone3 into a full group", "EAGAIN", lambda: clone3(INTO, cgroup=full)),
         ("clone3 into a group, and wrong flags", "EINVAL", lambda: clone3(INTO | SIGHAND, cgroup=group_b)),
         ("fork beyond a limit of the user", "EAGAIN", lambda: beyond_processes(fork)),
@@ -175,6 +201,31 @@ def status_of_own():
         if status["Name"] == "makhloeum\n":
             found.append((pid, int(status["FDSize"])))
     return found
+
+
+X32, TRACE = 0x40000000, {"TRACEME": 0, "ATTACH": 16, "SEIZE": 0x4206}
+
+
+def others():
+    """Calls of other kinds that are refused, whatever their arguments."""
+    machine, own = os.uname().machine == "x86_64", os.fork()
+    if own == 0:
+        signal.pause()
+    call = lambda *words: "ok" if libc.syscall(*words) >= 0 else errno.errorcode[ctypes.get_errno()]
+    nothing = (ctypes.c_uint64 * 32)()
+    for name, wanted, words in (
+        ("io_uring_setup", "EPERM", (425, 8, nothing)),
+        ("statmount", "ENOSYS", (457, nothing, nothing, 256, 0)),
+        ("listmount", "ENOSYS", (458, nothing, nothing, 1, 0)),
+        *(("ptrace " + n, "EPERM", (101 if machine else 117, k, own, 0, 0)) for n, k in TRACE.items()),
+        ("prlimit of makhloeum", "EPERM", (302 if machine else 261, tracer(), 7, nothing, None)),
+        *((("getpid of x32", "ENOSYS", (X32 + 39,)), ("fork of x32", "ENOSYS", (X32 + 57,))) if machine else ()),
+        ("mount of version 1", "EPERM", (165 if machine else 40, b"none", b"/", b"cgroup", 0, None)),
+    ):
+        same(name, call(*words), wanted)
+    same("prlimit of another", call(302 if machine else 261, own, 7, None, nothing), "ok")
+    os.kill(own, signal.SIGKILL)
+    os.waitpid(own, 0)
 
 
 def crowd():
@@ -282,7 +333,7 @@ def told():
         same("an end", changed(), wanted)
 
 
-INSIDE = {births: [], crowd: [], orphaned: [], unused: ["--control"], told: []}
+INSIDE = {births: [], others: [], crowd: [], orphaned: [], unused: ["--control"], told: []}
 inside(*INSIDE)
 run_each(INSIDE)
 finish()

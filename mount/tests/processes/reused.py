@@ -9,9 +9,10 @@ import tempfile
 import threading
 import time
 
+sys.path.insert(0, os.path.dirname(os.path.dirname(os.path.realpath(__file__))))
 from support import AT, PATIENCE, PROGRAM, Beside, Mount
-from support import error_of, finish, inside, into, own_of, read, same, spared, status_within, step, tracer, until
-from support import write
+from support import error_of, finish, inside, into, own_of, read, same, server_and_helper, spared, status_within, step
+from support import tracer, until, write
 
 ME = os.path.realpath(__file__)
 TRIES = 50  # another process of the namespace may take the number
@@ -175,8 +176,8 @@ def threads():
 
 
 def killing():
-    """A process that a kill is about to reach ends meanwhile. Whoever has its number next is not reached."""
-    held = os.environ["HELD_KILL"]
+    """A process that a kill is about to reach ends meanwhile. Whoever has its number next is not reached. The server that kills is stopped."""
+    held, server = os.environ["HELD_KILL"], server_and_helper(tracer())[0]
     os.mkdir(AT + "/a")
     r, w = os.pipe()
     first, second = child("/a"), child("/a", lambda: os.read(r, 1))  # a kill reaches the lower number first
@@ -199,12 +200,38 @@ def killing():
     # would come soon. Until the file is gone this process makes no thread and no child: they would wait for the supervisor.
     soon = time.monotonic() + 1
     step("the second ends", until(lambda: follower.got or (time.monotonic() > soon and waits_of() > before + 20)))
+    os.kill(server, signal.SIGSTOP)  # the supervisor that waits for it has to continue it
     os.unlink(held + ".hold")
     same("the kill ends", kill.result(), "done")
+    os.kill(server, signal.SIGCONT)  # else nothing else ends
     same("and the first by it", os.waitpid(first, 0)[1], signal.SIGKILL)
     same("another has the number of the second", follower.result(), second)
     same("and lives", (spared(second), numbers(""), count("/a")), ([True], sorted((1, os.getpid())), 0))
     os.kill(second, signal.SIGKILL)
+
+
+def unheard():
+    """While the server kills, more threads end than it can be told of. Their numbers are free after it."""
+    held, many, room = os.environ["HELD_KILL"], 400, 256
+    for g in ("/a", "/b"):
+        os.mkdir(AT + g)
+    killed = child("/a")
+    into("/b")
+    all_threads = [Thread() for _ in range(many)]
+    same("all count", count("/b"), many + 1)
+    open(held + ".hold", "w").close()
+    kill = Beside(lambda: write(AT + "/a/cgroup.kill", b"1") or "done")
+    step("the server kills", until(lambda: os.path.exists(held + ".began")))
+    for t in all_threads:
+        t.ends.set()
+    # the others wait for the supervisor, which waits for the server
+    until(lambda: len(os.listdir("/proc/self/task")) <= many + 2 - room, PATIENCE / 4)
+    os.unlink(held + ".hold")
+    same("the kill ends", kill.result(), "done")
+    for t in all_threads:
+        t.thread.join()
+    os.waitpid(killed, 0)
+    step("no thread counts any more", until(lambda: count("/b") == 1, PATIENCE / 4), count("/b"))
 
 
 def companion():
@@ -217,7 +244,8 @@ def companion():
     same("another has its number", int(asks.recv(16)), found[0])
 
 
-INSIDE = (processes, threads, killing, companion)
+INSIDE = (processes, threads, killing, unheard, companion)
+WITH_HELD_KILL = (killing, unheard)
 inside(*INSIDE)
 
 
@@ -242,7 +270,7 @@ def run(test):
     own, theirs = socket.socketpair(socket.AF_UNIX, socket.SOCK_SEQPACKET)
     words = [PROGRAM, "run", sys.executable, ME, "inside", test.__name__]
     env = dict(os.environ, ASKS=str(theirs.fileno()))
-    if test is killing:
+    if test in WITH_HELD_KILL:
         env.update(LD_PRELOAD=HELD_KILL, HELD_KILL=os.path.join(tempfile.mkdtemp(), "kill"))
     p = subprocess.Popen(words, pass_fds=(theirs.fileno(),), env=env)
     theirs.close()
@@ -290,7 +318,7 @@ def adopted():
 
 if sys.argv[1:] == ["outside"]:
     for test in INSIDE:
-        if test is not killing or os.path.exists(HELD_KILL):
+        if test not in WITH_HELD_KILL or os.path.exists(HELD_KILL):
             run(test)
     adopted()
     finish()

@@ -12,9 +12,10 @@ import tempfile
 import threading
 from concurrent.futures import ThreadPoolExecutor
 
+sys.path.insert(0, os.path.dirname(os.path.dirname(os.path.realpath(__file__))))
 from on_kernel import left_out
 from support import AT, BUILT, CGREPLAY, PATIENCE, PROGRAM
-from support import error_of, finish, in_parallel, read, same, step, until, write
+from support import error_of, finish, in_parallel, read, same, step, tracer, until, write
 
 ME = os.path.realpath(__file__)
 TASKS = os.path.join(BUILT, "tasks")
@@ -618,8 +619,13 @@ def uncounted():
     """With --threads=no."""
     a, b = (top / "a").make(), (top / "b").make()
     t = Tasks(a, "other")
-    t.make(3)
+    numbers = t.make(3)
     same("a process with five threads counts one", (a.current(), a.procs(), a.threads()), (1, [t.pid], [t.pid]))
+    for number, here, there in ((numbers[0], b, a), (numbers[2], a, b)):
+        same("the number of a thread moves its process", error_of(here.take, number), "ok")
+        same("alone", (here.procs(), here.threads(), there.procs()), ([t.pid], [t.pid], []))
+    same("a number of nobody moves none", (error_of(b.take, 4194302), b.procs()), ("ESRCH", []))
+    same("nor does one outside", (error_of(b.take, tracer()), b.procs()), ("ESRCH", []))
     a.write("pids.max", 1)
     same("no limit refuses a thread", type(t.ask("thread")), int)
     same("but a fork", t.ask("fork"), "EAGAIN")

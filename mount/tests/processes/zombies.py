@@ -1,15 +1,17 @@
 """Zombies under `makhloeum run`: what counts them, what lists them, and when they are gone, by each way in which a process ends. This
-file is also the program (dead.py inside NAME)."""
+file is also the program (zombies.py inside NAME)."""
 import ctypes
 import mmap
 import os
 import select
 import signal
+import sys
 import threading
 import time
 
+sys.path.insert(0, os.path.dirname(os.path.dirname(os.path.realpath(__file__))))
 from support import AT, PATIENCE, clone_into, error_of, finish, inside, into, libc, own_of, read, run_each, same
-from support import step, until, write
+from support import step, ticks, until, write
 
 MADV_POPULATE_READ = 22  # Linux 5.14
 
@@ -234,9 +236,12 @@ def waited():
         if count("/p") != 101:
             wrong.append((i, count("/p")))
     same("each that is waited for makes room for one", wrong, [])
+    current = os.open(AT + "/p/pids.current", os.O_RDONLY)
     for pid in reversed(dead):
         os.waitpid(pid, 0)
-    same("all are gone", seen("/p"), ([os.getpid()], [os.getpid()], 1, 1))
+    same("the next read finds all gone", os.pread(current, 99, 0), b"1\n")
+    os.close(current)
+    same("nobody else is listed", seen("/p"), ([os.getpid()], [os.getpid()], 1, 1))
     same("one event for the fork that was refused", read(AT + "/p/pids.events"), b"max 1\n")
 
 
@@ -263,10 +268,39 @@ def unheard():
     step("none of them counts any more", until(lambda: count("/many") == 1), count("/many"))
 
 
-def born():
-    """A kill of a group reaches a child that is just being made there, by a parent elsewhere: the supervisor is stopped while the
-    parent makes one, so the child is there and is not listed yet. The parent has a table of many pages, which takes milliseconds to
-    copy."""
+def work(forks=500):
+    before = ticks()
+    for _ in range(forks):
+        pid = os.fork()
+        if pid == 0:
+            os._exit(0)
+        os.waitpid(pid, 0)
+    return ticks() - before
+
+
+def many():
+    """Beside two thousand zombies, of its own group or of another, a fork is as much work as before, also in a watched group."""
+    found = []
+    for group in ("/a", "/b"):
+        os.mkdir(AT + group)
+        into(group)
+        same("it is populated", read(AT + group + "/cgroup.events"), b"populated 1\nfrozen 0\n")
+    for group in ("/b", "/a", "/b"):
+        into(group)
+        found.append(work())
+        if len(found) == 1:
+            into("/a")
+            for _ in range(2000):
+                if os.fork() == 0:
+                    os._exit(0)
+    step("in the group of the zombies", found[1] <= 2 * found[0] + 15, found)
+    step("in another one", found[2] <= 2 * found[0] + 15, found)
+
+
+def being_made(ends):
+    """A child is ended by `ends` when it has just been made in a group, by a parent elsewhere: the supervisor is stopped while the parent
+    makes one, so the child is there and is not listed yet. The parent has a table of many pages, which takes milliseconds to copy.
+    """
     os.mkdir(AT + "/p")
     group, supervisor, (r, w) = os.open(AT + "/p", os.O_RDONLY), os.getppid(), os.pipe()
     maker = os.fork()
@@ -283,6 +317,7 @@ def born():
             os.waitpid(pid, 0)
     children = lambda: read("/proc/%d/task/%d/children" % (maker, maker)).split()
     listed = lambda: read(AT + "/p/cgroup.procs").split()
+    kill_group = lambda: write(AT + "/p/cgroup.kill", b"1")
     reached, lives = 0, False
     for turn in range(600):
         os.write(w, b"x")
@@ -291,23 +326,39 @@ def born():
         until(lambda: b"T" in read("/proc/%d/stat" % supervisor).split()[:3])
         is_between = until(lambda: children() != [], 0.1) and listed() == []
         if is_between:
-            write(AT + "/p/cgroup.kill", b"1")
+            ends(int(children()[0]))
         os.kill(supervisor, signal.SIGCONT)
         if not is_between:
             until(listed)
-            write(AT + "/p/cgroup.kill", b"1")
+            kill_group()
         lives = not until(lambda: children() == [])
         reached += is_between
         if lives or reached == 3:
             break
-    print("  %d kills reached a child that was being made, in %d turns" % (reached, turn + 1))
+    print("  %d reached a child that was being made, in %d turns" % (reached, turn + 1))
     same("such a child lives", lives, False)
     step("there were such children", reached > 0)
+    step("and nobody counts", until(lambda: count("/p") == 0), count("/p"))
     os.kill(maker, signal.SIGKILL)
     os.waitpid(maker, 0)
 
 
-INSIDE = (ways, beside, removed, unwaited, told, waited, unheard, born)
+def born():
+    """A kill of its group reaches a child that is just being made."""
+    being_made(lambda pid: write(AT + "/p/cgroup.kill", b"1"))
+
+
+def unborn():
+    """A child that is just being made is killed: the supervisor finds its death before it hears of its birth."""
+
+    def ends(pid):
+        os.kill(pid, signal.SIGKILL)
+        step("it has ended", until(lambda: b"Z" in read("/proc/%d/stat" % pid).split()[:3]))
+
+    being_made(ends)
+
+
+INSIDE = (ways, beside, removed, unwaited, told, waited, unheard, many, born, unborn)
 inside(*INSIDE)
 run_each(dict.fromkeys(INSIDE, ["--control"]), lanes=3)
 finish()

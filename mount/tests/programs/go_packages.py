@@ -10,6 +10,7 @@ import subprocess
 import sys
 import tempfile
 
+sys.path.insert(0, os.path.dirname(os.path.dirname(os.path.realpath(__file__))))
 from support import PATIENCE, finish, same, status_within, step, until, write
 
 SOURCES = "/usr/share/gocode/src/"

@@ -46,6 +46,6 @@ soon "populated 0" grep -qx "populated 0" $g/cgroup.events
 soon "state: stopped" sh -c "$R state c1 | grep -q '\"stopped\"'"
 step "delete" $R delete c1
 step "the group is gone" test ! -e $g
-step "the whole life undone, newest first" python3 "$here/taken_back.py"
+step "the whole life undone, newest first" python3 "$here/undo_all.py"
 chmod -R u+rwx "$w"; rm -rf "$w"
 [ $bad = 0 ]

@@ -1,6 +1,6 @@
 /* alike WHAT: calls about processes and signals, one line for what came of each. alike.py compares what this says alone and under
    `makhloeum run`. `alike under PROGRAM ..` executes a program with a filter. */
-#include "filters.h"
+#include "../filters.h"
 #include <fcntl.h>
 #include <linux/sched.h>
 #include <poll.h>
@@ -443,6 +443,10 @@ static void clones(void)
 		put_child("beyond it", sizes[i], syscall(SYS_clone3, at + 1, sizes[i]));
 		fflush(stdout);
 	}
+	for (size_t i = 0; i < sizeof sizes / sizeof *sizes; i++) {
+		struct clone_args a = args_of(CLONE_INTO_CGROUP, SIGCHLD); /* descriptor 0 is of no group */
+		put_child("clone3 into a group, size", sizes[i], syscall(SYS_clone3, &a, sizes[i]));
+	}
 	put_child("clone3, more than a page", 0, syscall(SYS_clone3, room, 4097));
 	put_child("clone3 of nothing", 0, syscall(SYS_clone3, NULL, sizeof(struct clone_args)));
 #ifdef SYS_fork
@@ -716,13 +720,98 @@ static void inherits(void)
 	put("children", waitpid(-1, NULL, WNOHANG | __WALL));
 }
 
+/* ---------------------------------------------------------------- filters that tell clone3 and clone apart */
+
+static struct {
+	const char *name;
+	long call;
+	unsigned answer;
+	bool by_prctl;
+} judge;
+
+/* Of a child that ends with 5: its wait status, or why there is none. */
+static void put_made(const char *name, long call)
+{
+	static const struct clone_args args = { .exit_signal = SIGCHLD };
+	int status = 0;
+	long pid = call == SYS_clone3 ? syscall(call, &args, sizeof args) : syscall(call, SIGCHLD, 0, 0, 0, 0, ~0UL);
+	if (pid == 0)
+		_exit(5);
+	if (pid > 0)
+		waitpid((pid_t)pid, &status, 0);
+	printf("%s, %s: %s %#x\n", judge.name, name, pid < 0 ? fault() : "a child", status);
+	fflush(stdout);
+}
+
+static long add(const struct sock_filter *code, size_t count, bool by_prctl)
+{
+	const struct sock_fprog program = { (unsigned short)count, (struct sock_filter *)(size_t)code };
+	prctl(PR_SET_NO_NEW_PRIVS, 1, 0, 0, 0);
+	return by_prctl ? prctl(PR_SET_SECCOMP, SECCOMP_MODE_FILTER, &program, 0, 0)
+					: syscall(SYS_seccomp, SECCOMP_SET_MODE_FILTER, 0, &program);
+}
+
+static void makes_children(void)
+{
+	const struct sock_filter code[] = {
+		BPF_STMT(BPF_LD | BPF_W | BPF_ABS, offsetof(struct seccomp_data, nr)),
+		BPF_JUMP(BPF_JMP | BPF_JEQ | BPF_K, (unsigned)judge.call, 0, 1),
+		BPF_STMT(BPF_RET | BPF_K, judge.answer),
+		BPF_STMT(BPF_RET | BPF_K, SECCOMP_RET_ALLOW),
+	};
+	put("a filter", add(code, sizeof code / sizeof *code, judge.by_prctl));
+	put_made("clone3", SYS_clone3);
+	put_made("clone", SYS_clone);
+}
+
+/* The kernel has 0 in the register at the beginning. */
+static void uses_the_register(void)
+{
+	static const struct sock_filter code[] = { BPF_JUMP(BPF_JMP | BPF_JEQ | BPF_K, 0, 1, 0),
+		BPF_STMT(BPF_RET | BPF_K, SECCOMP_RET_ERRNO | 77), BPF_STMT(BPF_RET | BPF_K, SECCOMP_RET_ALLOW) };
+	put("a filter that uses the register", add(code, 3, false));
+	put("a call", syscall(SYS_getppid) > 0);
+}
+
+/* The longest that the kernel takes, shorter ones, and one that is too long. */
+static void adds_long_filters(void)
+{
+	static const size_t lengths[] = { 4000, BPF_MAXINSNS - 6, BPF_MAXINSNS - 5, BPF_MAXINSNS, BPF_MAXINSNS + 1, 0 };
+	static struct sock_filter code[BPF_MAXINSNS + 1];
+	for (size_t i = 0; i <= BPF_MAXINSNS; i++)
+		code[i] = (struct sock_filter)BPF_STMT(BPF_RET | BPF_K, SECCOMP_RET_ALLOW);
+	for (size_t i = 0; i < sizeof lengths / sizeof *lengths; i++)
+		put("a long filter", add(code, lengths[i], i % 2));
+	put("nowhere", add(NULL, 4, false));
+	put("nowhere at all", syscall(SYS_seccomp, SECCOMP_SET_MODE_FILTER, 0, 4096));
+	put_made("beside long filters", SYS_clone3);
+}
+
+static void judged(void)
+{
+	static const struct {
+		const char *name;
+		unsigned answer;
+	} answers[] = { { "EPERM", SECCOMP_RET_ERRNO | EPERM }, { "the end", SECCOMP_RET_KILL_PROCESS } };
+	for (int i = 0; i < 8; i++) {
+		judge.name = answers[i & 1].name;
+		judge.answer = answers[i & 1].answer;
+		judge.call = i & 2 ? SYS_clone : SYS_clone3;
+		judge.by_prctl = i & 4;
+		printf("%s for %s\n", judge.name, judge.call == SYS_clone ? "clone" : "clone3");
+		in_child(makes_children);
+	}
+	in_child(uses_the_register);
+	in_child(adds_long_filters);
+}
+
 int main(int argc, char **argv)
 {
 	static const struct {
 		const char *name;
 		void (*call)(void);
 	} all[] = { { "actions", actions }, { "news", news }, { "infos", infos }, { "waits", waits }, { "clones", clones },
-		{ "modes", modes }, { "inherits", inherits } };
+		{ "modes", modes }, { "judged", judged }, { "inherits", inherits } };
 	const char *what = argc > 1 ? argv[1] : "";
 	struct rlimit none = { 0, 0 };
 	if (strcmp(what, "strict") == 0 && argc > 2) {

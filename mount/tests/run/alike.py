@@ -1,4 +1,4 @@
-"""What a program sees of processes, signals and opens is the same alone and under `makhloeum run` (alike.c, opens.c): each line that it says
+"""What a program sees of processes, signals and opens is the same alone and under `makhloeum run` (alike.c, cgroup_opens.c): each line that it says
 without makhloeum is expected of it in a run."""
 import difflib
 import os
@@ -6,11 +6,12 @@ import subprocess
 import sys
 import tempfile
 
+sys.path.insert(0, os.path.dirname(os.path.dirname(os.path.realpath(__file__))))
 from support import AT, BUILT, PATIENCE, PROGRAM, finish, in_parallel, same, step
 
-ALIKE, OPENS = os.path.join(BUILT, "alike"), os.path.join(BUILT, "opens")
+ALIKE, OPENS = os.path.join(BUILT, "alike"), os.path.join(BUILT, "cgroup_opens")
 TEXT = "0::/a\n"
-WHAT = ("actions", "news", "infos", "waits", "clones", "modes", "filtered", "inherits", "opens")
+WHAT = ("actions", "news", "infos", "waits", "clones", "modes", "judged", "filtered", "inherits", "opens")
 # The same calls in a group of a run, whose path /proc/self/cgroup has to show.
 INSIDE = "mkdir -p %s/a && echo 0 >%s/a/cgroup.procs && exec " % (AT, AT)
 

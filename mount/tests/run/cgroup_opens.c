@@ -1,4 +1,4 @@
-/* opens TEXT: opens of /proc/self/cgroup, by many paths and flags, and statfs, one line for what came of each. It works in an empty
+/* cgroup_opens TEXT: opens of /proc/self/cgroup, by many paths and flags, and statfs, one line for what came of each. It works in an empty
    folder. TEXT is what the file has to show; without it, anything. alike.py compares what this says alone and under `makhloeum run`. */
 #include <errno.h>
 #include <fcntl.h>
@@ -52,6 +52,19 @@ static void open_each(const char *path, int flags)
 #endif
 }
 
+/* openat2 with each bit of its flags, its mode and its rules alone, most of which it does not know. Whether a text is cached is nobody's
+   business. */
+static void open_by_each_bit(const char *path)
+{
+	for (int bit = 0; bit < 64; bit++) {
+		const struct open_how one[] = { { .flags = 1ULL << bit }, { .mode = 1ULL << bit }, { .resolve = 1ULL << bit } };
+		static const char *const names[] = { "a flag", "a mode", "a rule" };
+		for (size_t i = 0; i < sizeof one / sizeof *one; i++)
+			if (one[i].resolve != RESOLVE_CACHED)
+				put_open(names[i], path, bit, (int)syscall(SYS_openat2, AT_FDCWD, path, &one[i], sizeof *one));
+	}
+}
+
 static void put_statfs(const char *name, long result)
 {
 	printf("statfs of %s: %s\n", name, result ? fault() : "ok");
@@ -62,7 +75,7 @@ int main(int argc, char **argv)
 	static const int flags[] = { O_RDONLY, O_CLOEXEC, O_NONBLOCK, O_NOFOLLOW, O_DIRECTORY, O_WRONLY, O_RDWR,
 		O_RDWR | O_CLOEXEC, O_APPEND, O_CREAT, O_CREAT | O_EXCL, O_PATH, O_PATH | O_CLOEXEC, O_NOATIME, O_SYNC,
 		O_NOCTTY, 0100000, O_CLOEXEC | O_NONBLOCK | O_NOCTTY, O_DIRECT, O_DIRECT | O_RDWR,
-		O_APPEND | O_NONBLOCK | O_NOATIME };
+		O_APPEND | O_NONBLOCK | O_NOATIME, O_TRUNC, O_TRUNC | O_CREAT, O_TRUNC | O_DIRECT };
 	static const char *const paths[] = { "/proc/self/cgroup", "/proc/self/cgroup/", "/proc/self/cgroup/.",
 		"/proc/self/cgroup/..", "/proc/self/cgroup//", "/proc/self/cgroup/x", "//proc//self//cgroup",
 		"/proc/self/./cgroup", "/proc/self/task/../cgroup", "/proc/self/nothing/../cgroup",
@@ -82,6 +95,7 @@ int main(int argc, char **argv)
 		open_each("/proc/self/cgroup", flags[i]);
 		open_each("link", flags[i]);
 	}
+	open_by_each_bit("/proc/self/cgroup");
 	for (size_t i = 0; i < sizeof paths / sizeof *paths; i++)
 		open_each(paths[i], O_RDONLY);
 	/* Chains of links; the last one and /proc/self are two more. The kernel follows forty, but counts them again if it looks

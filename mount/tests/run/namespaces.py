@@ -3,16 +3,38 @@ import ctypes
 import errno
 import fcntl
 import os
+import re
 import signal
 import subprocess
 import sys
 import tempfile
 import threading
 
-from support import AT, PATIENCE, PROGRAM, error_of, finish, inside, into, libc, line_of, read, same, step, until, write
+sys.path.insert(0, os.path.dirname(os.path.dirname(os.path.realpath(__file__))))
+from on_kernel import new_group
+from support import (
+    AT,
+    PATIENCE,
+    PROGRAM,
+    clone_into,
+    error_of,
+    finish,
+    inside,
+    into,
+    libc,
+    line_of,
+    read,
+    same,
+    step,
+    ticks,
+    until,
+    write,
+)
 
 ME = os.path.realpath(__file__)
 CLONE_NEWNS, CLONE_NEWCGROUP, CLONE_NEWUSER = 0x20000, 0x02000000, 0x10000000
+INTO = 0x200000000  # CLONE_INTO_CGROUP
+CGROUP2, PROCFS = 0x63677270, 0x9FA0
 
 
 def shell(script, *before):
@@ -167,8 +189,7 @@ look; exec unshare -C sh -c 'grep -e " %s " -e " %s " /proc/self/mountinfo' | cu
         )
     os.rmdir(where)
     number = 430
-    for name in (b"cgroup2", b"cgroup"):
-        same("fsopen of %s" % name.decode(), (libc.syscall(number, name, 0), ctypes.get_errno()), (-1, errno.ENOSYS))
+    same("fsopen of version 1", (libc.syscall(number, b"cgroup", 0), ctypes.get_errno()), (-1, errno.ENOSYS))
     for call in ("statmount", "listmount"):
         same(
             call,
@@ -193,6 +214,7 @@ def covered():
         return  # a sanitizer reads /proc
     os.mkdir(AT + "/a")
     same("the superuser opens a text to write too", error_of(os.open, "/proc/self/cgroup", os.O_RDWR), "EACCES")
+    same("and with a truncation", error_of(os.open, "/proc/self/cgroup", os.O_TRUNC), "ok")
     script = (
         "echo 0 > %s/a/cgroup.procs; echo; read x; cat /proc/self/cgroup; grep -c ' - cgroup2 ' /proc/self/mountinfo"
         % AT
@@ -373,9 +395,6 @@ def mounted_by_thread(at):
     return got[0]
 
 
-CREATE = 6
-
-
 def rewritten():
     """A second thread rewrites the type of a mount while it is looked at."""
     home, there = tempfile.mkdtemp(), os.stat(AT).st_dev
@@ -399,7 +418,7 @@ def rewritten():
             libc.umount2(home.encode(), DETACH)
         context = libc.syscall(430, kind, 0)
         if context >= 0:
-            fd = libc.syscall(432, context, 0, 0) if libc.syscall(431, context, CREATE, None, None, 0) == 0 else -1
+            fd = libc.syscall(432, context, 0, 0) if configure(context, CREATE) == 0 else -1
             seen.append(("fsopen", fd >= 0 and is_machines(fd)))
             for each in (context, fd):
                 libc.close(each)
@@ -454,14 +473,19 @@ def beneath():
 
 
 THREAD = """
-import threading
+import ctypes, sys, threading
+libc, home = ctypes.CDLL(None), sys.argv[1]
+def own():
+    libc.unshare(0x20000)  # CLONE_NEWNS
+    libc.mount(b"x", home.encode(), b"tmpfs", 0, None)
+    print(*(home in open("/proc/%s/mounts" % name).read() for name in ("thread-self", "self")))
 def look():
     own = "/proc/self/task/%d/" % threading.get_native_id()
     print(open("/proc/thread-self/cgroup").read(), open(own + "cgroup").read())
     for name in "/proc/thread-self/mounts", own + "mounts":
         print(sum(line.split()[1:3] == ["/sys/fs/cgroup", "cgroup2"] for line in open(name)))
-for _ in range(2):
-    t = threading.Thread(target=look)
+for call in look, look, own:
+    t = threading.Thread(target=call)
     t.start()
     t.join()
 """
@@ -471,13 +495,30 @@ def threads():
     """Texts of a thread, also where processes have other numbers."""
     os.mkdir(AT + "/a")
     into("/a")
+    home = tempfile.mkdtemp()
     for how in ("-m", "-mpf"):
         ran = subprocess.run(
-            ["unshare", how, *(["--mount-proc"] if "p" in how else []), sys.executable, "-c", THREAD],
+            ["unshare", how, *(["--mount-proc"] if "p" in how else []), sys.executable, "-c", THREAD, home],
             stdout=subprocess.PIPE,
             timeout=PATIENCE,
         )
-        same("unshare %s" % how, ran.stdout.split(), [b"0::/a", b"0::/a", b"1", b"1"] * 2)
+        lines = [b"0::/a", b"0::/a", b"1", b"1"] * 2
+        same(
+            "unshare %s, the last thread with mounts of its own" % how, ran.stdout.split(), lines + [b"True", b"False"]
+        )
+    found = []
+
+    def look():
+        libc.unshare(CLONE_NEWNS)
+        mount(home, "tmpfs")
+        names = "thread-self", "self", "self/task/%d" % threading.get_native_id()
+        found.extend(home.encode() in read("/proc/%s/mounts" % name) for name in names)
+
+    t = threading.Thread(target=look)
+    t.start()
+    t.join()
+    same("a thread with mounts of its own", found, [True, False, True])
+    os.rmdir(home)
 
 
 def confined():
@@ -498,6 +539,53 @@ def confined():
     same("each has its group", os.read(r, 999), b"0::/a\n" * 3)
 
 
+def magic_of(call, where):
+    """The file system's magic number, which is the first of its description; or the name of the errno."""
+    described = (ctypes.c_long * 32)()
+    return described[0] if call(where, described) == 0 else errno.errorcode[ctypes.get_errno()]
+
+
+READS = "i=0; while [ $i -lt 200 ]; do read x </proc/self/cgroup; read y </proc/self/mountinfo; i=$((i + 1)); done"
+
+
+def crowded():
+    """In a PID namespace, with its own /proc or without, an open is as much work beside seven hundred processes as beside ten."""
+    release = os.environ.get("OLD_KERNEL") or os.uname().release
+    if tuple(map(int, re.findall(r"\d+", release)[:2])) < (6, 11):
+        return  # the kernel translates no numbers
+    works, others = {}, []
+    for count in (10, 700):
+        while len(others) < count:
+            others.append(os.fork())
+            if others[-1] == 0:
+                signal.pause()
+        for how in ("", "--mount-proc"):
+            before = ticks()
+            got = shell(READS, "unshare", "--pid", "--fork", *how.split())
+            works[how, count] = ticks() - before
+            same("it reads beside %d %s" % (count, how), got, (0, "", ""))
+    for how in ("", "--mount-proc"):
+        step("the work %s" % how, works[how, 700] <= 1.5 * works[how, 10] + 20, works)
+    for pid in others:
+        os.kill(pid, signal.SIGKILL)
+        os.waitpid(pid, 0)
+
+
+def described():
+    """What is said of an open text of /proc: it is of procfs, also by a path that leads to it, and groups beside it are not."""
+    os.mkdir(AT + "/.makhloeum.new")
+    for name in ("self/cgroup", "self/mounts", "self/mountinfo", "thread-self/cgroup", "1/cgroup"):
+        fd = os.open("/proc/" + name, os.O_RDONLY)
+        by_path = magic_of(libc.statfs, b"/proc/self/fd/%d" % fd)
+        same(name, (magic_of(libc.fstatfs, fd), by_path), (PROCFS, PROCFS))
+        os.close(fd)
+    for name in ("", "/.makhloeum.new", "/.makhloeum.new/cgroup.procs", "/cgroup.procs"):
+        fd = os.open(AT + name, os.O_RDONLY)
+        both = magic_of(libc.fstatfs, fd), magic_of(libc.statfs, (AT + name).encode())
+        same("a file of the hierarchy: %r" % name, both, (CGROUP2, CGROUP2))
+        os.close(fd)
+
+
 def closed():
     """A process that others may not look at, such as one that its user may run and not read: texts by its descriptors."""
     os.mkdir(AT + "/a")
@@ -507,6 +595,7 @@ def closed():
     held = os.open("/proc/self/cgroup", os.O_PATH)
     folder = os.open("/proc/self", os.O_PATH)
     other, top = os.open("/etc/hostname", os.O_PATH), os.open(home, os.O_PATH)
+    group = os.open(AT + "/a", os.O_RDONLY)
     for dumpable in (1, 0):
         libc.prctl(4, dumpable, 0, 0, 0)  # PR_SET_DUMPABLE
         for name in (
@@ -521,6 +610,12 @@ def closed():
             what = "%s, dumpable %d" % (name.rpartition("/fd/")[0] or name, dumpable)
             same(what, read(name) if error_of(read, name) == "ok" else error_of(read, name), b"0::/a\n")
         same("another file, dumpable %d" % dumpable, read("/proc/self/fd/%d" % other), read("/etc/hostname"))
+        got = os.read(os.open("cgroup", os.O_RDONLY, dir_fd=folder), 99)
+        same("from a descriptor of /proc/self, dumpable %d" % dumpable, got, b"0::/a\n")
+        kinds = [magic_of(libc.statfs, AT.encode()), magic_of(libc.fstatfs, group)]
+        same("both calls of statfs, dumpable %d" % dumpable, kinds, [CGROUP2] * 2)
+        same("a child in a group, dumpable %d" % dumpable, clone_into(group), 0)
+        same("a child elsewhere, dumpable %d" % dumpable, [clone_into(fd) for fd in (top, 999)], ["EBADF"] * 2)
         for name in ("999", "x", "%dx" % held, "0%d" % held, "+%d" % held, " %d" % held, "-1"):
             got = error_of(os.open, "/proc/self/fd/" + name, os.O_RDONLY)
             same("a descriptor %r, dumpable %d" % (name.replace(str(held), "N"), dumpable), got, "ENOENT")
@@ -663,8 +758,292 @@ def cpusets():
     other.wait()
 
 
+# ---------------------------------------------------------------- also of the kernel, in a group of its cgroup2
+
+
+def top_of(at):
+    """The path of a group at the machine's mount, as /proc/PID/cgroup shows it; a run's hierarchy begins at its own root."""
+    return "" if at == AT else "/" + os.path.basename(at)
+
+
+def own_line(*files):
+    """What these files of /proc show of version 2."""
+    ran = subprocess.run(["grep", "-h", "^0::", *files], stdout=subprocess.PIPE, timeout=PATIENCE)
+    return ran.stdout.decode().split()
+
+
+def born(at=AT):
+    """A clone3 into a group and a new namespace: the namespace begins at that group, not at its creator's."""
+    for g in ("/a", "/b", "/b/c"):
+        os.mkdir(at + g)
+    write(at + "/a/cgroup.procs", b"0")
+    (r, w), (may_end, end) = os.pipe(), os.pipe()
+    args = (ctypes.c_uint64 * 11)(INTO | CLONE_NEWCGROUP, 0, 0, 0, signal.SIGCHLD)
+    args[10] = os.open(at + "/b", os.O_RDONLY)
+    pid = libc.syscall(435, args, 88)
+    if pid == 0:
+        for group in (None, "/b/c", "/a", "/b"):
+            if group:
+                write(at + group + "/cgroup.procs", b"0")
+            os.write(w, next(x for x in read("/proc/self/cgroup").splitlines(True) if x.startswith(b"0::")))
+        os.close(w)
+        os.read(may_end, 1)
+        os._exit(0)
+    os.close(w)
+    said = b"".join(iter(lambda: os.read(r, 999), b""))
+    same("what it sees, also once it has moved", said.split(), [b"0::/", b"0::/c", b"0::/../a", b"0::/"])
+    same("what is seen from outside", own_line("/proc/%d/cgroup" % pid), ["0::%s/b" % top_of(at)])
+    same("the creator's own", own_line("/proc/self/cgroup"), ["0::%s/a" % top_of(at)])
+    os.write(end, b"x")
+    os.waitpid(pid, 0)
+
+
+def container(script, *words):
+    """A process in PID and mount namespaces of its own, with a /proc of these; once its script has said a line it is returned, with its
+    number and the line."""
+    p = subprocess.Popen(
+        ["unshare", "-mpf", "--mount-proc", "sh", "-ec", script, "sh", *words],
+        stdout=subprocess.PIPE,
+        stderr=subprocess.DEVNULL,
+        text=True,
+    )
+    line = p.stdout.readline()
+    return p, int(read("/proc/%d/task/%d/children" % (p.pid, p.pid))), line.strip()
+
+
+def translates():
+    """Whether the kernel that makhloeum sees translates numbers of processes (Linux 6.11)."""
+    if os.environ.get("OLD_KERNEL"):
+        return False
+    with open("/proc/self/ns/pid") as space:
+        return error_of(fcntl.ioctl, space, 0x8004B706, os.getpid()) == "ok"  # NS_GET_PID_FROM_PIDNS
+
+
+def numbered(at=AT):
+    """The number in a path of /proc is of the PID namespace in which that /proc was mounted, whoever asks."""
+    for g in ("/a", "/b", "/c"):
+        os.mkdir(at + g)
+    write(at + "/a/cgroup.procs", b"0")
+    here, there, below = ("0::%s/%s" % (top_of(at), g) for g in "abc")
+    other = subprocess.Popen(["sleep", "600"], preexec_fn=lambda: write(at + "/b/cgroup.procs", b"0"))
+    numbers = (os.getpid(), other.pid)
+    own = ("/proc/self/cgroup", "/proc/thread-self/cgroup")
+    paths = "%s %s /proc/%d/cgroup /proc/%d/task/%d/cgroup" % (*own, numbers[0], numbers[1], numbers[1])
+    got = shell("grep -h ^0:: " + paths, "unshare", "-pf")
+    same("a namespace without a /proc of its own", got[1].split(), [here, here, here, there])
+    if at == AT:
+        script = "grep -c ' %s cgroup2 ' /proc/self/mounts /proc/thread-self/mounts /proc/%d/mounts" % (at, numbers[0])
+        wanted = ["/proc/self/mounts:1", "/proc/thread-self/mounts:1", "/proc/%d/mounts:1" % numbers[0]]
+        same("its table of mounts", shell(script, "unshare", "-pf")[1].split(), wanted)
+        same("its cpuset", shell("cat /proc/self/cpuset", "unshare", "-pf")[1], "/\n")
+    if at != AT or translates():
+        others_of(at, here, there, below)
+    other.kill()
+    other.wait()
+
+
+def others_of(at, here, there, below):
+    """A /proc of a namespace seen from one below it, and from outside."""
+    script = """exec unshare -pf sh -c 'echo 0 >"$1/c/cgroup.procs"; exec grep -h ^0:: /proc/self/cgroup /proc/thread-self/cgroup' sh %s"""
+    got = shell(script % at, "unshare", "-mpf", "--mount-proc")
+    same("a namespace in one that has a /proc", got[1].split(), [below, below])
+    # the first process of a namespace, and of one below it, which has another number there
+    script = """for n in 1 2 3 4 5; do sh -c : & done; wait
+echo 0 >"$1/b/cgroup.procs"
+exec unshare -pf sh -c 'echo 0 >"$1/c/cgroup.procs"; read n rest </proc/self/stat; echo $n; exec sleep 600' sh "$1" """
+    p, first, deepest = container(script, at)
+    root = "/proc/%d/root/proc" % first
+    names = ["%s/%s/cgroup" % (root, who) for who in ("1", "1/task/1", deepest, "%s/task/%s" % (deepest, deepest))]
+    same("a /proc of others", [own_line(name) for name in names], [[there], [there], [below], [below]])
+    for name in ("self", "thread-self"):
+        same("who isn't there has no %s" % name, error_of(read, "%s/%s/cgroup" % (root, name)), "ENOENT")
+    script = "exec nsenter -t %d -p -m grep -h ^0:: /proc/self/cgroup /proc/1/cgroup /proc/%s/cgroup" % (first, deepest)
+    same("from inside", shell(script)[1].split(), [here, there, below])
+    folder = os.open("%s/%s" % (root, deepest), os.O_RDONLY)
+    same("by a descriptor", own_line("/proc/%d/fd/%d/cgroup" % (os.getpid(), folder)), [below])
+    os.close(folder)
+    os.kill(first, signal.SIGKILL)
+    p.communicate()
+
+
+FSOPEN, FSCONFIG, FSMOUNT, FSPICK, MOVE_MOUNT = 430, 431, 432, 433, 429
+SET_FLAG, SET_STRING, SET_BINARY, SET_PATH, SET_PATH_EMPTY, SET_FD, CREATE, RECONFIGURE, CREATE_ALONE = range(9)
+
+
+def called(number, *words):
+    """What a call returns, or the name of the errno."""
+    got = libc.syscall(number, *(ctypes.c_long(w) if isinstance(w, int) else w for w in words))
+    return got if got >= 0 else errno.errorcode[ctypes.get_errno()]
+
+
+def configure(fd, command, key=None, value=None, number=0):
+    return called(FSCONFIG, fd, command, key, value, number)
+
+
+def configured(at=AT):
+    """A mount of cgroup2 that is made by the new calls, as libmount and LXC do it."""
+    place, path = AT if at == AT else os.path.dirname(at), tempfile.mkdtemp()
+    where, nowhere_to_read = path.encode(), ctypes.c_void_p(8)
+    os.mkdir(at + "/known")
+    for name, wanted, words in (
+        ("unknown flags", "EINVAL", (b"cgroup2", 2)),
+        ("no name", "EFAULT", (None, 0)),
+        ("an empty name", "ENODEV", (b"", 0)),
+    ):
+        same("fsopen, %s" % name, called(FSOPEN, *words), wanted)
+    for flags in (0, 1):
+        fd = called(FSOPEN, b"cgroup2", flags)
+        same("fsopen, flags %d" % flags, fcntl.fcntl(fd, fcntl.F_GETFD), flags)
+        os.close(fd)
+    fd = called(FSOPEN, b"cgroup2", 1)
+    got = [error_of(os.read, fd, 9), error_of(os.write, fd, b"x"), error_of(os.lseek, fd, 0, 0)]
+    same("read, write and lseek", got, ["ENODATA", "EINVAL", "ESPIPE"])
+    same("not made yet", (called(FSMOUNT, fd, 0, 0), configure(fd, RECONFIGURE)), ("EINVAL", "EBUSY"))
+    wrong = [called(FSMOUNT, fd, *words) for words in ((2, 0), (0, 1 << 30), (0, 0x100000), (0, 0x30), (0, 0x60))]
+    same("wrong flags and attributes", wrong, ["EINVAL"] * 5)
+    for words, wanted in (
+        ((99,), "ENOTSUP"),
+        ((CREATE, b"x"), "EINVAL"),
+        ((CREATE, None, None, 1), "EINVAL"),
+        ((SET_FLAG,), "EINVAL"),
+        ((SET_FLAG, b"ro", b"x"), "EINVAL"),
+        ((SET_FLAG, b"ro", None, 1), "EINVAL"),
+        ((SET_FLAG, b"rw"), 0),
+        # the machine's superuser would change its groups by these
+        *((((SET_FLAG, b"nsdelegate"), 0), ((SET_FLAG, b"memory_recursiveprot"), 0)) if at == AT else ()),
+        ((SET_FLAG, b"nosuch"), "EINVAL"),
+        ((SET_FLAG, b"source"), "EINVAL"),
+        ((SET_FLAG, b"nodev"), "EINVAL"),
+        ((SET_FLAG, b"k" * 256), "EINVAL"),
+        ((SET_STRING, b"source", b"none"), 0),
+        ((SET_STRING, b"source", b"none"), "EINVAL"),
+        ((SET_STRING, b"source"), "EINVAL"),
+        ((SET_STRING, b"nsdelegate", b"1"), "EINVAL"),
+        ((SET_STRING, b"rw", b"1"), 0),
+        ((SET_STRING, nowhere_to_read, b"x"), "EFAULT"),
+        ((SET_STRING, b"source", nowhere_to_read), "EFAULT"),
+        ((SET_BINARY, b"x", b"yy", 2), "EINVAL"),
+        ((SET_BINARY, b"x", b"", 0), "EINVAL"),
+        ((SET_PATH, b"source", b"/", -100), "EINVAL"),
+        ((SET_PATH_EMPTY, b"source", b"", -100), "EINVAL"),
+        ((SET_FD, b"source", None, 0), "EINVAL"),
+        ((SET_FD, b"source", None, 999), "EBADF"),
+        ((SET_FD, b"source", None, -1), "EINVAL"),
+    ):
+        same("fsconfig %s" % (words,), configure(fd, *words), wanted)
+    same("of other descriptors", [configure(n, CREATE) for n in (0, 999, -1)], ["EINVAL", "EBADF", "EINVAL"])
+    same("nor mounts", [called(FSMOUNT, n, 0, 0) for n in (0, 999)], ["EINVAL", "EBADF"])
+    got = [configure(fd, CREATE), configure(fd, CREATE), configure(fd, SET_FLAG, b"rw"), configure(fd, RECONFIGURE)]
+    same("made once", got, [0, "EBUSY", "EBUSY", "EBUSY"])
+    top = called(FSMOUNT, fd, 1, 0x2 | 0x10)  # MOUNT_ATTR_NOSUID, MOUNT_ATTR_NOATIME
+    same("mounted, and closed at an exec", fcntl.fcntl(top, fcntl.F_GETFD), 1)
+    step("its root by the descriptor", os.stat("cgroup.procs", dir_fd=top))
+    same("not twice", (called(FSMOUNT, fd, 1, 0), configure(fd, CREATE)), ("EBUSY", "EBUSY"))
+    same("options after it", (configure(fd, SET_FLAG, b"rw"), configure(fd, SET_FLAG, b"nosuch")), (0, "EINVAL"))
+    if at == AT:
+        same("and a change is the machine's superuser's", configure(fd, RECONFIGURE), "EPERM")
+        same("then all is over", (configure(fd, SET_FLAG, b"rw"), called(FSMOUNT, fd, 0, 0)), ("EBUSY", "EBUSY"))
+    os.close(fd)
+    for to, flags, wanted in ((b"/nowhere", 4, "ENOENT"), (b"/etc/passwd", 4, "EINVAL"), (where, 1 << 12, "EINVAL")):
+        same("moved to %s, flags %d" % (to.decode(), flags), called(MOVE_MOUNT, top, b"", -100, to, flags), wanted)
+    same("moved", called(MOVE_MOUNT, top, b"", -100, where, 4), 0)
+    os.close(top)
+    same("it is of the hierarchy", os.stat(path).st_ino == os.stat(place).st_ino, True)
+    line = [x.split() for x in open("/proc/self/mountinfo") if " %s " % path in x]
+    got = [(x[3], x[x.index("-") + 1], {"nosuid", "noatime"} <= set(x[5].split(","))) for x in line]
+    same("its line", got, [("/", "cgroup2", True)])
+    fd = called(FSPICK, -100, where, 1)
+    same("picked", fcntl.fcntl(fd, fcntl.F_GETFD), 1)
+    if at == AT:  # FUSE has no such option
+        same("it is of cgroup2", configure(fd, SET_FLAG, b"nsdelegate"), 0)
+    got = [configure(fd, SET_FLAG, b"rw"), configure(fd, CREATE), called(FSMOUNT, fd, 0, 0)]
+    same("it is mounted already", got, [0, "EBUSY", "EBUSY"])
+    os.close(fd)
+    fd = os.open(path, os.O_PATH)
+    picked = called(FSPICK, fd, b"", 8)
+    step("by its descriptor", type(picked) is not str and os.close(picked) is None, picked)
+    for to, flags, wanted in (
+        (where, 16, "EINVAL"),
+        (where + b"/cgroup.procs", 0, "EINVAL"),
+        (b"/nowhere", 0, "ENOENT"),
+    ):
+        same("fspick of %s, flags %d" % (to.decode(), flags), called(FSPICK, -100, to, flags), wanted)
+    os.close(fd)
+    libc.umount2(where, DETACH)
+    fd = called(FSOPEN, b"cgroup2", 0)
+    got = [configure(fd, CREATE_ALONE), configure(fd, CREATE), called(FSMOUNT, fd, 0, 0)]
+    same("one that nobody else has", got, ["EBUSY", "EBUSY", "EINVAL"])
+    os.close(fd)
+    os.rmdir(path)
+
+
+def kept_apart():
+    """A mount that is read-only, in a cgroup namespace that begins at a group, by a descriptor of the place."""
+    path = tempfile.mkdtemp()
+    os.mkdir(AT + "/a")
+    os.mkdir(AT + "/a/below")
+    pid = os.fork()
+    if pid == 0:
+        into("/a")
+        libc.unshare(CLONE_NEWCGROUP)
+        fd, to = called(FSOPEN, b"cgroup2", 0), os.open(path, os.O_PATH)
+        configure(fd, CREATE)
+        top = called(FSMOUNT, fd, 0, 1)
+        moved = called(MOVE_MOUNT, top, b"", to, b"", 4 | 0x40)
+        right = moved == 0 and os.path.exists(path + "/below")
+        os._exit(0 if right and error_of(os.mkdir, path + "/new") == "EROFS" else 1)
+    same("it is right", os.waitpid(pid, 0)[1], 0)
+    libc.umount2(path.encode(), DETACH)
+    fd = called(FSOPEN, b"cgroup2", 0)
+    configure(fd, CREATE)
+    top = called(FSMOUNT, fd, 0, 0)
+    if os.fork() == 0:
+        time_of_capabilities = (ctypes.c_uint32 * 2)(0x20080522, 0), (ctypes.c_uint32 * 6)()
+        libc.capset(*time_of_capabilities)
+        got = [
+            called(MOVE_MOUNT, top, b"", -100, path.encode(), 4),
+            called(FSMOUNT, fd, 0, 0),
+            called(FSOPEN, b"cgroup2", 2),
+        ]
+        os._exit(0 if got == ["EPERM"] * 3 else 1)
+    same("without privileges", os.wait()[1], 0)
+    os.rmdir(path)
+
+
+def over(at=AT):
+    """The same file system is mounted at a place only once; below its own root it may be."""
+    home, place = tempfile.mkdtemp(), AT if at == AT else os.path.dirname(at)
+    os.mkdir(at + "/g")
+    file = home + "/file"
+    open(file, "w").close()
+    same("over the hierarchy", error_of(mount, place), "EBUSY")
+    same("read-only", (libc.mount(b"x", place.encode(), b"cgroup2", 1, None), ctypes.get_errno()), (-1, errno.EBUSY))
+    for where in (at + "/g", home):
+        same("at another place, twice", (error_of(mount, where), error_of(mount, where)), ("ok", "EBUSY"))
+        step("its root is there", os.path.exists(where + "/cgroup.procs"))
+        same("it goes", libc.umount2(where.encode(), DETACH), 0)
+    libc.mount((at + "/g").encode(), home.encode(), None, BIND, None)
+    same("over a group that is mounted", error_of(mount, home), "EBUSY")
+    libc.umount2(home.encode(), DETACH)
+    same("over a file of a group", error_of(mount, at + "/g/cgroup.procs"), "ENOTDIR")
+    libc.mount((at + "/g/cgroup.procs").encode(), file.encode(), None, BIND, None)
+    same("over one that is mounted", error_of(mount, file), "EBUSY")
+    libc.umount2(file.encode(), DETACH)
+    os.unlink(file)
+    os.rmdir(home)
+    if at == AT:
+        libc.mount(b"own", AT.encode(), b"tmpfs", 0, None)
+        same("over something else at its usual place", error_of(mount, AT), "ok")
+        there = [line.split()[2] for line in open("/proc/self/mounts") if line.split()[1] == AT]
+        same("all three are listed, in their order", there, ["cgroup2", "tmpfs", "cgroup2"])
+        for kind in ("cgroup2", "tmpfs"):
+            same("%s goes again" % kind, libc.umount2(AT.encode(), DETACH), 0)
+        same("and the hierarchy is there", os.path.isdir(AT + "/g"), True)
+
+
 def unprivileged():
     same("a mount without privileges", error_of(mount, "/tmp"), "EPERM")
+    same("over the hierarchy", error_of(mount, AT), "EPERM")
     nowhere("cgroup2", "cgroup", "tmpfs")
     closed_to = os.path.join(tempfile.mkdtemp(), "closed")
     os.mkdir(closed_to, 0)
@@ -674,7 +1053,7 @@ def unprivileged():
     for kind in (b"cgroup", b"tmpfs"):
         got = libc.mount(b"none", b"/tmp", kind, 0, None), ctypes.get_errno()
         same("of %s" % kind.decode(), got, (-1, errno.EPERM))
-    for kind, wanted in ((b"cgroup2", errno.ENOSYS), (b"tmpfs", errno.EPERM)):
+    for kind, wanted in ((b"cgroup2", errno.EPERM), (b"tmpfs", errno.EPERM)):
         same("fsopen of %s" % kind.decode(), (libc.syscall(430, kind, 0), ctypes.get_errno()), (-1, wanted))
     same("nor a namespace", (libc.unshare(CLONE_NEWCGROUP), ctypes.get_errno()), (-1, errno.EPERM))
     same("then all is as before", read("/proc/self/cgroup"), b"0::/\n")
@@ -710,14 +1089,36 @@ INSIDE = (
     threads,
     confined,
     closed,
+    described,
+    crowded,
     cpusets,
     uncounted,
     unprivileged,
+    born,
+    numbered,
+    over,
+    configured,
+    kept_apart,
 )
-OPTIONS = {unprivileged: [], closed: [], uncounted: ["--root", "--threads=no"], cpusets: ["--root", "--keep", "cpuset"]}
+KERNEL = (born, numbered, over, configured)
+OPTIONS = {
+    unprivileged: [],
+    closed: [],
+    described: [],
+    uncounted: ["--root", "--threads=no"],
+    cpusets: ["--root", "--keep", "cpuset"],
+}
 FIRST = (by_chroot, by_unshare, by_clone, by_setns, by_pivot_root)
 inside(*INSIDE, *FIRST)
-for test in INSIDE if sys.argv[1:] != ["roots"] else ():
+if sys.argv[1:] == ["kernel"]:
+    for test in KERNEL:
+        with new_group() as group:
+            words = ["unshare", "-m", sys.executable, ME, "inside", test.__name__, group]
+            if group:
+                same("the status of %s" % test.__name__, subprocess.run(words, timeout=6 * PATIENCE).returncode, 0)
+    finish()
+wanted = [test for test in INSIDE if test.__name__ in sys.argv[1:]]
+for test in wanted or (INSIDE if sys.argv[1:] != ["roots"] else ()):
     how = OPTIONS.get(test, ["--root"])
     ran = subprocess.run(
         [PROGRAM, "run", *how, sys.executable, ME, "inside", test.__name__],
@@ -725,9 +1126,9 @@ for test in INSIDE if sys.argv[1:] != ["roots"] else ():
         stderr=subprocess.PIPE,
     )
     same("the status of %s" % test.__name__, (ran.returncode, ran.stderr), (0, b""))
-if sys.argv[1:] != ["roots"]:
+if sys.argv[1:] != ["roots"] and not wanted:
     apart()
-for test in FIRST:
+for test in FIRST if not wanted else ():
     if test in (by_setns, by_pivot_root) and os.geteuid():
         step("%s is left out: only the superuser may" % test.__name__, True)
         continue

@@ -1,5 +1,5 @@
 /* noticed WHAT ..: small differences by which a program could notice that it does not run on a kernel, for noticed.py. */
-#include "filters.h"
+#include "../filters.h"
 #include <fcntl.h>
 #include <linux/sched.h>
 #include <poll.h>
@@ -65,6 +65,8 @@ static long call_with(long number, unsigned long regs[6])
 static int registers(void)
 {
 	struct clone_args args = { .exit_signal = SIGCHLD };
+	struct sock_filter code[] = { BPF_STMT(BPF_RET | BPF_K, SECCOMP_RET_ALLOW) };
+	const struct sock_fprog program = { 1, code };
 	const struct {
 		const char *name;
 		long number;
@@ -82,6 +84,8 @@ static int registers(void)
 		{ "unshare", SYS_unshare, { CLONE_NEWCGROUP, 72, 73, 74, 75, 76 }, EPERM },
 		{ "prctl", SYS_prctl, { PR_SET_SECCOMP, 82, 83, 84, 85, 86 }, EINVAL },
 		{ "wait4", SYS_wait4, { -1UL, 0, WNOHANG, 0, 95, 96 }, ECHILD },
+		{ "seccomp", SYS_seccomp, { SECCOMP_SET_MODE_FILTER, 1UL << 30, (unsigned long)&program, 104, 105, 106 },
+			EINVAL },
 	};
 	for (size_t i = 0; i < sizeof some / sizeof *some; i++) {
 		unsigned long regs[6];

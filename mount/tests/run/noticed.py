@@ -6,11 +6,13 @@ import mmap
 import os
 import resource
 import select
+import shutil
 import signal
 import subprocess
 import sys
 import tempfile
 
+sys.path.insert(0, os.path.dirname(os.path.dirname(os.path.realpath(__file__))))
 from support import AT, BUILT, PATIENCE, PROGRAM, Beside, Mount
 from support import error_of, finish, in_parallel, inside, libc, own_of, read, same, step, write
 
@@ -120,6 +122,7 @@ def opens():
         ("EAGAIN", cwd, "/proc/self/cgroup", {"flags": os.O_CREAT, "resolve": CACHED}),
         ("EAGAIN", cwd, "/proc/self/cgroup", {"flags": os.O_TRUNC, "resolve": CACHED}),
         ("EACCES", cwd, "/proc/self/cgroup", {"flags": os.O_RDWR}),
+        ("EACCES", cwd, "/proc/self/cgroup", {"flags": os.O_TRUNC}),
         ("ELOOP", cwd, absolute, {"flags": os.O_NOFOLLOW}),
         (text, cwd, absolute, {}),
         ("ELOOP", cwd, absolute, {"resolve": NO_SYMLINKS}),
@@ -147,15 +150,37 @@ def opens():
     write(AT + "/cgroup.subtree_control", b"+cpuset")
     os.mkdir(AT + "/a/b")
     write(AT + "/a/b/cgroup.procs", b"0")
+    write(AT + "/cgroup.subtree_control", b"+memory")
+    write(AT + "/a/cgroup.subtree_control", b"+memory")
+    same("a group has another controller", read(AT + "/a/b/cgroup.controllers"), b"memory\n")
     same("/proc/self/cpuset is of the nearest group that has one", read("/proc/self/cpuset"), b"/a\n")
     write(AT + "/a/cgroup.subtree_control", b"+cpuset")
     write(AT + "/cgroup.procs", b"0")
     same("of the root", read("/proc/self/cpuset"), b"/\n")
     same(
         "/proc/cgroups",
-        [x.split()[0] for x in open("/proc/cgroups")],
-        ["#subsys_name", "cpuset", "cpu", "blkio", "memory", "pids"],
+        [x.split()[0] for x in open("/proc/cgroups") if x.split()[3] in ("enabled", "1")],
+        ["#subsys_name", "cpuset", "cpu", "cpuacct", "blkio", "memory", "pids"],
     )
+
+
+def contained():
+    """A Java machine takes its limits from its group only if /proc/cgroups has each controller that it asks for, cpuacct too."""
+    if not shutil.which("java"):
+        print("  left out: there is no java")
+        return
+    write(AT + "/cgroup.subtree_control", b"+cpu +cpuset +memory")
+    os.mkdir(AT + "/j")
+    write(AT + "/j/cpu.max", b"100000 100000")
+    write(AT + "/j/memory.max", b"256M")
+    write(AT + "/j/cgroup.procs", b"0")
+    words = ["java", "-Xlog:os+container=trace", "-XX:-UsePerfData", "-version"]
+    ran = subprocess.run(words, stdout=subprocess.PIPE, stderr=subprocess.STDOUT, timeout=4 * PATIENCE)
+    lines = {line.partition("] ")[2] for line in ran.stdout.decode().splitlines()}
+    found = [
+        x for x in lines if x.startswith("OSContainer::active_processor_count") or x == "Memory Limit is: 268435456"
+    ]
+    same("java: its limits", sorted(found), ["Memory Limit is: 268435456", "OSContainer::active_processor_count: 1"])
 
 
 CHANGED = select.EPOLLPRI | select.EPOLLERR
@@ -220,6 +245,16 @@ def tables():
         os.close(by_link)
 
 
+def untold():
+    """What isn't a table of mounts can always be read, and tells of no change, as every other text of /proc."""
+    for name in ("status", "cgroup", "cpuset"):
+        fd, ready = os.open("/proc/self/" + name, os.O_RDONLY), select.poll()
+        ready.register(fd, 0x1FF)
+        always = select.POLLIN | select.POLLOUT | select.POLLRDNORM | select.POLLWRNORM
+        same("a poll of %s" % name, ready.poll(0), [(fd, always)])
+        os.close(fd)
+
+
 def kept():
     """Tables that are open stay what they are, however many others are opened after them."""
     held = {name: os.open("/proc/self/" + name, os.O_RDONLY) for name in ("mounts", "mountinfo", "mountstats")}
@@ -239,7 +274,7 @@ def kept():
         os.close(fd)
 
 
-INSIDE = (interrupted, children, zombies, filters, opens, tables, kept)
+INSIDE = (interrupted, children, zombies, filters, opens, tables, untold, kept, contained)
 inside(*INSIDE)
 
 
@@ -251,7 +286,8 @@ def run(test):
         if test is zombies:
             resource.setrlimit(resource.RLIMIT_NOFILE, (1024, 1024))
 
-    more = {opens: ["--keep", "memory,cpu,io,cpuset"], tables: ["--root"], kept: ["--root"]}.get(test, [])
+    more = {opens: ["--keep", "memory,cpu,io,cpuset"], contained: ["--keep", "cpu,cpuset,memory"]}.get(test, [])
+    more += ["--root"] if test in (tables, kept) else []
     ran = subprocess.run(
         [PROGRAM, "run", *more, sys.executable, ME, "inside", test.__name__], timeout=6 * PATIENCE, preexec_fn=limit
     )

@@ -4,28 +4,29 @@ import os
 import subprocess
 import sys
 
+sys.path.insert(0, os.path.dirname(os.path.dirname(os.path.realpath(__file__))))
 from support import PATIENCE, PROGRAM, finish, in_parallel, same, step
 
-HERE = os.path.dirname(os.path.realpath(__file__))
+FOLDER = os.path.dirname(os.path.dirname(os.path.realpath(__file__)))
 LIBRARY = os.path.join(os.path.dirname(PROGRAM), "older.so")
 TESTS = (
-    ("dead",),
-    ("spaces",),
-    ("adopted",),
-    ("tasks", "leaderless", "moves", "killed", "born_elsewhere", "undone"),
-    ("meddling", "unshares", "writers", "limited", "calls"),
-    ("hostile", "zombies", "texts", "arguments"),
-    ("noticed", "children", "opens", "tables"),
-    ("refused", "births"),
-    ("alike", "waits", "opens"),
-    ("blocking", "leaderless"),  # a namespace's directory that is held back holds up a run before Linux 6.11
+    ("processes/zombies",),
+    ("run/namespaces",),
+    ("processes/adopted",),
+    ("processes/tasks", "leaderless", "moves", "killed", "born_elsewhere", "undone"),
+    ("hostile/meddling", "unshares", "writers", "limited", "calls"),
+    ("hostile/hostile", "zombies", "texts", "arguments"),
+    ("run/noticed", "children", "opens", "tables"),
+    ("processes/refused", "births"),
+    ("run/alike", "waits", "opens"),
+    ("hostile/blocking", "leaderless"),  # a namespace's directory that is held back holds up a run before Linux 6.11
 )
 
 
 def run(one):
     kernel, (test, *names) = one
     env = dict(os.environ, LD_PRELOAD=LIBRARY, OLD_KERNEL=kernel)
-    words = [sys.executable, os.path.join(HERE, test + ".py"), *names]
+    words = [sys.executable, os.path.join(FOLDER, test + ".py"), *names]
     ran = subprocess.run(words, env=env, stdout=subprocess.PIPE, stderr=subprocess.STDOUT, timeout=12 * PATIENCE)
     same("%s on %s" % (test, kernel), ran.returncode, 0)
     if ran.returncode:

@@ -14,6 +14,7 @@ import tempfile
 import threading
 import time
 
+sys.path.insert(0, os.path.dirname(os.path.dirname(os.path.realpath(__file__))))
 from support import AT, CGREPLAY, PATIENCE, PROGRAM, Mount
 from support import error_of, finish, is_alive, libc, read, same, server_and_helper, step, until, write
 

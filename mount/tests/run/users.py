@@ -7,6 +7,7 @@ import shutil
 import subprocess
 import sys
 
+sys.path.insert(0, os.path.dirname(os.path.dirname(os.path.realpath(__file__))))
 from support import PATIENCE, PROGRAM, error_of, finish, libc, own_of, read, same, step
 
 ME = os.path.realpath(__file__)

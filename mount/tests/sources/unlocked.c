@@ -1,28 +1,28 @@
 /* Each function that needs the engine's lock ends a program that calls it without the lock. Built with CHECK_LOCK, over the
    sources of the mount without main.c. */
-#include "attributes.h"
-#include "control.h"
-#include "engine.h"
-#include "joined.h"
-#include "listed.h"
-#include "opened.h"
-#include "operations.h"
-#include "owner.h"
-#include "remembered.h"
-#include "reserved.h"
-#include "spaces.h"
-#include "tasks.h"
-#include "watch.h"
-#include "zombies.h"
+#include "engine/engine.h"
+#include "engine/undo_steps.h"
+#include "processes/members.h"
+#include "processes/reservations.h"
+#include "processes/tasks.h"
+#include "processes/zombies.h"
+#include "server/attributes.h"
+#include "server/cgroup_namespaces.h"
+#include "server/control.h"
+#include "server/group_state.h"
+#include "server/open_files.h"
+#include "server/operations.h"
+#include "server/owner.h"
+#include "server/watch.h"
 #include <signal.h>
 #include <stdio.h>
 #include <sys/wait.h>
 #include <unistd.h>
 
 static struct stat st;
-static struct remembered remembered = { .path = "/" };
+static struct group_state remembered = { .path = "/" };
 static struct node node = { .group = &remembered }, found;
-static struct opened opened;
+static struct open_file opened;
 static size_t size;
 static const char *text;
 static char group[PATH_MAX_SAID];
@@ -65,23 +65,23 @@ static void history(void)
 }
 static void find(void)
 {
-	remembered_find("/");
+	group_state_find("/");
 }
 static void make(void)
 {
-	remembered_make("/");
+	group_state_make("/");
 }
 static void lose(void)
 {
-	remembered_lose("/");
+	group_state_lose("/");
 }
 static void numbered(void)
 {
-	remembered_numbered(1);
+	group_state_numbered(1);
 }
 static void tidy(void)
 {
-	remembered_tidy(&remembered);
+	group_state_tidy(&remembered);
 }
 static void node_find(void)
 {
@@ -149,19 +149,19 @@ static int ignore(pid_t pid, const char *in)
 }
 static void listed(void)
 {
-	listed_each("/", false, ignore);
+	members_each("/", false, ignore);
 }
-static void visit(const struct remembered *r)
+static void visit(const struct group_state *r)
 {
 	(void)r;
 }
 static void visit_each(void)
 {
-	remembered_each("/", visit);
+	group_state_each("/", visit);
 }
 static void prepare(void)
 {
-	spaces_prepare(1, 1);
+	cgroup_namespaces_prepare(1, 1, NULL);
 }
 static void zombies_room(void)
 {
@@ -173,27 +173,27 @@ static void forget_watch(void)
 }
 static void new_open(void)
 {
-	opened_new(&remembered, NULL, A_DIRECTORY);
+	open_files_new(&remembered, NULL, A_DIRECTORY);
 }
 static void has(void)
 {
-	opened_has(&opened, 1, 0);
+	open_files_has(&opened, 1, 0);
 }
 static void read_open(void)
 {
-	opened_read(&opened, group, 0, 0);
+	open_files_read(&opened, group, 0, 0);
 }
 static void is_gone(void)
 {
-	opened_is_gone(&opened);
+	open_files_is_gone(&opened);
 }
 static void wake(void)
 {
-	opened_wake(&remembered, NULL);
+	open_files_wake(&remembered, NULL);
 }
 static void lose_open(void)
 {
-	opened_lose(&remembered);
+	open_files_lose(&remembered);
 }
 static void control(void)
 {
@@ -206,11 +206,11 @@ static void begin_several(void)
 }
 static void newest_operation(void)
 {
-	joined_newest(1);
+	undo_steps_newest(1);
 }
 static void count_reserved(void)
 {
-	reserved_count();
+	reservations_count();
 }
 static void next_thread(void)
 {
@@ -240,7 +240,7 @@ int main(void)
 		touch, forget_owner, forget_attributes, seen, above, below, process, listed, visit_each, prepare, zombies_room,
 		forget_watch, new_open, has, read_open, is_gone, wake, lose_open, control, begin_several, newest_operation,
 		count_reserved, next_thread };
-	static struct kept none = { .fd = -1 };
+	static struct trace_file none = { .fd = -1 };
 	size_t wrong = 0, count = sizeof calls / sizeof *calls;
 	if (!engine_start(&none, &none, true))
 		return 1;

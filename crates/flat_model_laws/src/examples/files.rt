@@ -9,7 +9,9 @@ ghost use Rattle.std.specs.Prelude.{
   List,
   [],
   ◌∷◌,
+  Option,
   Some,
+  None,
   ◌++◌,
   codes,
   map,
@@ -30,11 +32,16 @@ ghost use Rattle.flat_model.specs.File.{
   PidsPeak,
   PidsEvents,
   PidsEventsLocal,
+  ValueKind,
+  PidValue,
+  LimitValue,
+  KillValue,
   file_name,
   all_files,
   on_root,
   readable,
   writable,
+  value_kind,
 };
 ghost use Rattle.flat_model.specs.Command.{Move, SetLimit, Kill, Show, NotReadable};
 ghost use Rattle.flat_model.specs.Step.{refusal};
@@ -56,6 +63,23 @@ pub fn table_of_files()
         ∷ (codes "pids.peak", false, true, false)
         ∷ (codes "pids.events", false, true, false)
         ∷ (codes "pids.events.local", false, true, false)
+        ∷ [] }
+{}
+
+/// What is written to each file: a pid, one of the three limits, or the 1 of a kill.
+pub fn kinds_of_values()
+    ensures { map {B = List ℕ × Option ValueKind} (λ f. (file_name f, value_kind f)) all_files
+        ≡ (codes "cgroup.procs", Some PidValue)
+        ∷ (codes "cgroup.events", None)
+        ∷ (codes "cgroup.stat", None)
+        ∷ (codes "cgroup.max.descendants", Some (LimitValue MaxDescendants))
+        ∷ (codes "cgroup.max.depth", Some (LimitValue MaxDepth))
+        ∷ (codes "cgroup.kill", Some KillValue)
+        ∷ (codes "pids.max", Some (LimitValue PidsMax))
+        ∷ (codes "pids.current", None)
+        ∷ (codes "pids.peak", None)
+        ∷ (codes "pids.events", None)
+        ∷ (codes "pids.events.local", None)
         ∷ [] }
 {}
 

@@ -1,8 +1,9 @@
 //! Worked examples of the lines of a trace, each with its meaning.
 
-ghost use Rattle.std.specs.Prelude.{◌≡◌, codes, replicate};
+ghost use Rattle.std.specs.Prelude.{◌≡◌, [], ◌∷◌, codes, replicate};
 ghost use Rattle.flat_model.specs.Command.{Fork};
 ghost use Rattle.flat_model.specs.Trace.{
+  lines_in,
   read_line,
   Skip,
   Run,
@@ -13,6 +14,17 @@ ghost use Rattle.flat_model.specs.Trace.{
   BadDirection,
   BadValue,
 };
+
+/// A line feed ends a line. What follows the last one is a line if it isn't empty.
+pub fn lines_of_a_text()
+    ensures nothing { lines_in [] ≡ [] }
+    ensures line_feed { lines_in (codes "\n") ≡ [] ∷ [] }
+    ensures ended { lines_in (codes "a\n") ≡ codes "a" ∷ [] }
+    ensures unended { lines_in (codes "a") ≡ codes "a" ∷ [] }
+    ensures empty_between { lines_in (codes "a\n\nb") ≡ codes "a" ∷ [] ∷ codes "b" ∷ [] }
+    ensures empty_last { lines_in (codes "a\n\n") ≡ codes "a" ∷ [] ∷ [] }
+    ensures other_blanks { lines_in (codes "a b\r\n\tc") ≡ codes "a b\r" ∷ codes "\tc" ∷ [] }
+{}
 
 /// The first fault of a line: words, path, file, direction, value.
 pub fn lines_refused()

@@ -8,6 +8,7 @@ returns c = record {
   root_alone = root_alone;
   process = first_process;
   made = made_bare;
+  fresh = made_bare;
   others = made_alone;
   home = λ s p. refl;
 }

@@ -6,6 +6,7 @@ use Rattle.group_tree.specs.Groups.{Groups, slot_of}
 use Rattle.group_tree.specs.declared.attr.Attr.{Attr}
 use Rattle.pids_charge.specs.Content.{Content}
 use Rattle.pids_charge.specs.Events.{full_by, longest}
+use Rattle.pids_charge.specs.Lists.{table_slot}
 use Rattle.pids_charge.proofs.ParentSteps.{of_group, own_below, step_up, at_own}
 use Rattle.pids_charge.proofs.FullGroupWalk.{longest-yes, longest-no}
 use Rattle.pids_charge.proofs.notes.nearest_full.Goals as goal
@@ -78,3 +79,7 @@ returns-then-is_full-clause-answer g c =
     let yes = told g.M.Meter.LEAVES tree (g.M.Meter.content c.args.meter.now) (g.M.Meter.content c.loop-up.meter) p n c.row.result.now c.is_full.result here i.same c.is_full.ensures.answer in
     let last : c.depth.result - c.loop-up.up ≡ m + 1 = omega (arith, c.depth.ensures, next) in
     ap (λ (k : ℕ). Some k) last ∙ sym (longest-yes full p m (ap (λ (k : ℕ). full (take k p)) (sym next) ∙ yes ∙ c.if-is_full.true)) ∙ ap (longest full p) (sym next) ∙ sym i.answer
+
+pub returns-then-is_full-clause-row : goal.returns-then-is_full-clause-row
+returns-then-is_full-clause-row g c =
+    c.loop-up.invariant.at ∙ ap (λ (k : ℕ). table_slot c.args.tree.now (take (k - c.loop-up.up) c.args.path.now)) (sym c.depth.ensures)

@@ -1,6 +1,6 @@
 use Rattle.std.proofs.Common.{◌≡◌, ◌<◌, ◌≤◌, ℕ, None, length, take}
 use Rattle.std.specs.FinMap as fin
-use Rattle.pids_charge.proofs.peaks.find_longest.Given as goal
+use Rattle.pids_charge.proofs.specified.find_longest.Given as goal
 
 abbrev pub invariant-loop-n : goal.invariant-loop-n
 invariant-loop-n g l = record {

@@ -1,6 +1,6 @@
 use Rattle.std.proofs.Common.{◌≡◌, ◌∙◌, true, [], sym, subst, inr, map, option_map}
 use Rattle.clap.specs.Words.{HasKind, app_of, fault_of, is_simple_and_free, kind_of}
-use Rattle.replay_main.specs.ReplayArguments.{rehearsal_in, rehearsal_said, workers_in, workers_said}
+use Rattle.replay_main.specs.ReplayArguments.{AsksReplayBy, rehearsal_in, rehearsal_said, workers_in, workers_said}
 use Rattle.replay_main.proofs.ReplayCommandLine.{app_free, asks_by, rehearsal_said_in, said_in}
 use Rattle.replay_main.proofs.arguments.read_words.Goals as goal
 
@@ -34,5 +34,5 @@ pub returns : goal.returns
 returns g c =
     let words = map g.S.AsStr.text c.args.words.now in
     let is = c.in-Ok.ensures in
-    asks_by words (kind_of c.in-Err.error) c.asked_by.result c.asked_by.ensures
+    asks_by words (kind_of c.in-Err.error) c.asked_by.result (subst (λ b. AsksReplayBy b (kind_of c.in-Err.error) c.asked_by.result) c.cluster_first.ensures c.asked_by.ensures)
     (subst (λ a. is_simple_and_free a ≡ true → HasKind (fault_of a words) c.in-Err.error) is c.in-Err.ensures.kinds app_free)

@@ -1,5 +1,6 @@
 use Rattle.std.proofs.Common.{◌≡◌, ◌∙◌, true, not, [], map, string_bytes, codes, subst}
 use Rattle.clap.specs.Words.{HasKind, app_of, fault_of, is_simple_and_free, kind_of}
+use Rattle.shell_main.specs.ShellArguments.{AsksShellBy}
 use Rattle.shell_main.proofs.CommandLine.{app_free, asks_by, file_said_in, flag_said_in}
 use Rattle.shell_main.proofs.arguments.read_words.Goals as goal
 
@@ -21,5 +22,5 @@ pub returns-in-Err : goal.returns-in-Err
 returns-in-Err c =
     let words = map string_bytes c.args.words.now in
     let is = c.in-Ok.ensures in
-    asks_by words (kind_of c.in-Err.error) c.asked_by.result c.asked_by.ensures
+    asks_by words (kind_of c.in-Err.error) c.asked_by.result (subst (λ b. AsksShellBy b (kind_of c.in-Err.error) c.asked_by.result) c.cluster_first.ensures c.asked_by.ensures)
     (subst (λ a. is_simple_and_free a ≡ true → HasKind (fault_of a words) c.in-Err.error) is c.in-Err.ensures.kinds app_free)

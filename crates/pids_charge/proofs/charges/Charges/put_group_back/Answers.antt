@@ -10,7 +10,7 @@ use Rattle.pids_charge.proofs.Slots.{has_names, has_slots, not_mapped, not_used,
 use Rattle.pids_charge.proofs.MeterContents.{grown_tree}
 use Rattle.pids_charge.proofs.FlatGroups.{group-get, len-is, there-is}
 use Rattle.pids_charge.proofs.LimitWrites.{written-is}
-use Rattle.pids_charge.proofs.charges.Charges.restore.Goals as goal
+use Rattle.pids_charge.proofs.charges.Charges.put_group_back.Goals as goal
 
 pub overflow_sub-last : goal.overflow_sub-last
 overflow_sub-last g c =

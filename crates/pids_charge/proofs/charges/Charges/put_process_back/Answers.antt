@@ -5,7 +5,7 @@ use Rattle.process_table.specs.declared.process.Process.{Process}
 use Rattle.std.specs.Vec.{vec_capacity}
 use Rattle.pids_charge.proofs.FlatGroups.{there-is, no_home, moved-is}
 use Rattle.pids_charge.proofs.MeterContents.{held_small, added}
-use Rattle.pids_charge.proofs.charges.Charges.place.Goals as goal
+use Rattle.pids_charge.proofs.charges.Charges.put_process_back.Goals as goal
 
 pub slot_in-slot-requires : goal.slot_in-slot-requires
 slot_in-slot-requires g c = there-is c.args.self.now c.self.inside.tree c.self.inside.processes c.self.view_is c.args.path.now c.requires.group

@@ -15,7 +15,7 @@ use Rattle.pids_charge.proofs.MeterContents.{held_small, placed}
 use Rattle.pids_charge.proofs.Entries.{home_rows, to_sorted, not_found, find_new}
 use Rattle.pids_charge.proofs.ListedProcesses.{placed-is}
 use Rattle.pids_charge.proofs.FlatGroups.{there-is}
-use Rattle.pids_charge.proofs.charges.Charges.place_all_by.Goals as goal
+use Rattle.pids_charge.proofs.charges.Charges.put_processes_back.Goals as goal
 
 pub place_each-requires-clause-new : goal.place_each-requires-clause-new
 place_each-requires-clause-new g c =

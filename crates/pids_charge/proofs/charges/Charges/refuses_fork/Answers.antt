@@ -1,4 +1,4 @@
-use Rattle.std.proofs.Common.{◌≡◌, Some, None, is_some, sym, ap, ◌∙◌, subst, ◌≤◌, length}
+use Rattle.std.proofs.Common.{◌≡◌, Some, None, is_some, sym, ap, ◌∙◌, subst, ◌≤◌, length, option_map}
 use Rattle.flat_model.specs.Command.{Fork}
 use Rattle.flat_model.specs.Path.{Path}
 use Rattle.flat_model.specs.State.{State}
@@ -7,6 +7,7 @@ use Rattle.pids_charge.specs.Answers.{refusal_of_fault}
 use Rattle.pids_charge.proofs.FlatGroups.{process-is}
 use Rattle.pids_charge.proofs.MeterContents.{found_placed}
 use Rattle.pids_charge.proofs.ForkOutcomes.{home_at, fork_asks}
+use Rattle.pids_charge.specs.declared.notes.FullGroup.{FullGroup}
 use Rattle.pids_charge.proofs.charges.Charges.refuses_fork.Goals as goal
 
 pub nearest_full-requires-clause-home : goal.nearest_full-requires-clause-home
@@ -27,12 +28,12 @@ returns-in-Some-clause-first g c =
     fork_asks g.M.Meter.SLOTS g.M.Meter.LEAVES c.self.inside.tree c.self.inside.processes (g.M.Meter.content c.self.inside.meter)
     (g.M.Meter.held c.self.inside.meter) c.self.invariant.recounted c.self.inside.free.items c.self.invariant.has_slots
     c.known.ensures.prefixes c.args.self.now c.self.view_is c.args.parent c.in-Ok.process.now found c.args.child new
-    (Some c.in-Some.n) (sym c.in-Some.is ∙ c.nearest_full.ensures.answer)
+    (Some c.in-Some.full.names) (ap (option_map (λ (full : FullGroup). full.names)) (sym c.in-Some.is) ∙ c.nearest_full.ensures.answer)
 
 pub returns-in-Some-clause-inside : goal.returns-in-Some-clause-inside
 returns-in-Some-clause-inside g c =
     let at_home = home_at _ _ _ _ _ c.self.invariant.recounted c.args.self.now c.self.view_is c.args.parent c.in-Ok.process.now c.in-Ok.ensures.parent in
-    subst (λ (q : Path). c.in-Some.n ≤ length q) (sym at_home) (rw c.in-Some.is at c.nearest_full.ensures.inside).1
+    subst (λ (q : Path). c.in-Some.full.names ≤ length q) (sym at_home) (rw c.in-Some.is at c.nearest_full.ensures.inside).1
 
 pub returns-clause-first : goal.returns-clause-first
 returns-clause-first g c =
@@ -41,7 +42,7 @@ returns-clause-first g c =
     fork_asks g.M.Meter.SLOTS g.M.Meter.LEAVES c.self.inside.tree c.self.inside.processes (g.M.Meter.content c.self.inside.meter)
     (g.M.Meter.held c.self.inside.meter) c.self.invariant.recounted c.self.inside.free.items c.self.invariant.has_slots
     c.known.ensures.prefixes c.args.self.now c.self.view_is c.args.parent c.in-Ok.process.now found c.args.child new None
-    (sym c.in_default.is ∙ c.nearest_full.ensures.answer)
+    (ap (option_map (λ (full : FullGroup). full.names)) (sym c.in_default.is) ∙ c.nearest_full.ensures.answer)
 
 pub returns-clause-ready : goal.returns-clause-ready
 returns-clause-ready g c = λ _. (

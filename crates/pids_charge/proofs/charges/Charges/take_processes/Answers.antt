@@ -16,7 +16,7 @@ use Rattle.pids_charge.proofs.FlatGroups.{group-is, killed_group}
 use Rattle.pids_charge.proofs.Gathers.{left_rows, lost_rows}
 use Rattle.pids_charge.proofs.MeterContents.{held_small, inside_there, killed}
 use Rattle.pids_charge.proofs.KillLists.{lost-is, killed-is}
-use Rattle.pids_charge.proofs.charges.Charges.kill_by.Goals as goal
+use Rattle.pids_charge.proofs.charges.Charges.take_processes.Goals as goal
 
 pub settle-requires-clause-charged : goal.settle-requires-clause-charged
 settle-requires-clause-charged g c = λ s j.
@@ -53,14 +53,12 @@ invariant_of-self g c =
     }
 
 pub returns-clause-state : goal.returns-clause-state
-returns-clause-state g c = (
-  c.in_default.ensures.first,
-  ap (state_of c.self.inside.tree) (c.leave-lost.ensures.stay
-      ∙ ap (λ (ks : List ℕ). without_each ks c.self.inside.processes) (c.as_slice-2.ensures.value ∙ (c.in_ok-pids.ensures).pids)
-      ∙ left_rows (is_inside c.args.path.now) c.self.inside.processes c.self.invariant.recounted.ordered)
-      ∙ killed-is c.self.inside.tree c.self.inside.processes c.self.invariant.recounted.ordered c.args.path.now
-      ∙ ap (λ (t : State). after t (Kill c.args.path.now)) c.self.view_is,
-)
+returns-clause-state g c =
+    ap (state_of c.self.inside.tree) (c.leave-lost.ensures.stay
+    ∙ ap (λ (ks : List ℕ). without_each ks c.self.inside.processes) (c.as_slice-2.ensures.value ∙ (c.in_ok-pids.ensures).pids)
+    ∙ left_rows (is_inside c.args.path.now) c.self.inside.processes c.self.invariant.recounted.ordered)
+    ∙ killed-is c.self.inside.tree c.self.inside.processes c.self.invariant.recounted.ordered c.args.path.now
+    ∙ ap (λ (t : State). after t (Kill c.args.path.now)) c.self.view_is
 
 pub returns-clause-taken : goal.returns-clause-taken
 returns-clause-taken g c =
@@ -73,7 +71,7 @@ returns-clause-taken g c =
 pub gather-requires-clause-group : goal.gather-requires-clause-group
 gather-requires-clause-group g c =
     sym (group-is c.args.self.now c.self.inside.tree c.self.inside.processes c.self.view_is c.args.path.now)
-    ∙ killed_group g.M.Meter.SLOTS c.args.self.now c.args.path.now c.in_default.ensures.first
+    ∙ killed_group g.M.Meter.SLOTS c.args.self.now c.args.path.now c.requires
 
 pub leave-lost-requires-clause-pids : goal.leave-lost-requires-clause-pids
 leave-lost-requires-clause-pids g c =

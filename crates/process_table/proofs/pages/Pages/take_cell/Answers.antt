@@ -1,6 +1,6 @@
 use Rattle.std.proofs.Common.{◌/◌, ◌%◌, ◌<◌, ◌≤◌, None, length, refl, sym, ◌∙◌, arith}
 use Rattle.process_table.proofs.PageChanges.{cell_here, wrote_as, kept_read, no_page, none_there}
-use Rattle.process_table.proofs.pages.Pages.take.Goals as goal
+use Rattle.process_table.proofs.pages.Pages.take_cell.Goals as goal
 
 pub returns-then-page-len-clause-before : goal.returns-then-page-len-clause-before
 returns-then-page-len-clause-before g c =

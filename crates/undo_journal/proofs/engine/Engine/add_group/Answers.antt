@@ -7,7 +7,7 @@ use Rattle.undo_journal.proofs.Histories.{HasRecorded, has_recorded}
 use Rattle.undo_journal.proofs.engine.Engine.add_group.Goals as goal
 
 -- what was pushed is the record of the command
-made : (g : _) (c : goal.In_ok-push-in-Ok g)
+made : (g : _) (c : goal.In_ok-push g)
     → HasRecorded g.M.Meter.SLOTS c.self.inside.forgotten c.args.self.now c.make_group.new.self c.push.new.self.items (model.MakeGroup c.args.path.now)
 made g c =
     has_recorded g.M.Meter.SLOTS c.self.inside.forgotten c.args.self.now
@@ -15,12 +15,12 @@ made g c =
     (record { command = MakeGroup c.in_ok-named.named; inverse = Made c.in_ok-made.made })
     (model.MakeGroup c.args.path.now)
     (model_inverse.Made c.args.path.now)
-    c.self.view_is c.self.invariant c.reserve.ensures.items c.in_ok-push-in-Ok.ensures.items
+    c.self.view_is c.self.invariant c.reserve.ensures.items c.in_ok-push.ensures.items
     (λ i. (model.MakeGroup (c.in_ok-named.ensures i), model_inverse.Made ((c.in_ok-made.ensures ∙ c.in_ok-named.ensures) i)))
-    c.requires refl (rw c.in-Ok.is at c.make_group.ensures.made)
+    c.requires refl c.in_ok-make_group.ensures.made
 
-pub invariant_of-self-in-Ok : goal.invariant_of-self-in-Ok
-invariant_of-self-in-Ok g c = (made g c).history
+pub invariant_of-self-2 : goal.invariant_of-self-2
+invariant_of-self-2 g c = (made g c).history
 
-pub returns-in_ok-push-in-Ok-clause-ok : goal.returns-in_ok-push-in-Ok-clause-ok
-returns-in_ok-push-in-Ok-clause-ok g c = (made g c).timeline
+pub returns-clause-ok : goal.returns-clause-ok
+returns-clause-ok g c = (made g c).timeline

@@ -8,20 +8,20 @@ use Rattle.undo_journal.proofs.Histories.{HasRecorded, has_recorded}
 use Rattle.undo_journal.proofs.engine.Engine.take_members.Goals as goal
 
 -- what was pushed is the record of the command
-made : (g : _) (c : goal.In_ok-push-in-Ok g)
-    → HasRecorded g.M.Meter.SLOTS c.self.inside.forgotten c.args.self.now c.kill_by.new.self c.push.new.self.items (model.Kill c.args.path.now)
+made : (g : _) (c : goal.In_ok-push g)
+    → HasRecorded g.M.Meter.SLOTS c.self.inside.forgotten c.args.self.now c.take_processes.new.self c.push.new.self.items (model.Kill c.args.path.now)
 made g c =
     has_recorded g.M.Meter.SLOTS c.self.inside.forgotten c.args.self.now
-    c.self.inside.charges c.kill_by.new.self c.self.inside.journal.items c.push.new.self.items
-    (record { command = Kill c.in_ok-named.named; inverse = Killed c.in-Ok.list })
+    c.self.inside.charges c.take_processes.new.self c.self.inside.journal.items c.push.new.self.items
+    (record { command = Kill c.in_ok-named.named; inverse = Killed c.in_ok-list.list })
     (model.Kill c.args.path.now)
     (model_inverse.Killed (lost c.self.inside.charges c.args.path.now))
-    c.self.view_is c.self.invariant c.reserve.ensures.items c.in_ok-push-in-Ok.ensures.items
-    (λ i. (model.Kill (c.in_ok-named.ensures i), model_inverse.Killed (c.in-Ok.ensures.taken i)))
-    c.requires refl c.in-Ok.ensures.state.1
+    c.self.view_is c.self.invariant c.reserve.ensures.items c.in_ok-push.ensures.items
+    (λ i. (model.Kill (c.in_ok-named.ensures i), model_inverse.Killed (c.in_ok-list.ensures.taken i)))
+    c.requires refl c.in_ok-list.ensures.state
 
-pub invariant_of-self-in-Ok : goal.invariant_of-self-in-Ok
-invariant_of-self-in-Ok g c = (made g c).history
+pub invariant_of-self-2 : goal.invariant_of-self-2
+invariant_of-self-2 g c = (made g c).history
 
-pub returns-in_ok-push-in-Ok-clause-ok : goal.returns-in_ok-push-in-Ok-clause-ok
-returns-in_ok-push-in-Ok-clause-ok g c = (made g c).timeline
+pub returns-clause-ok : goal.returns-clause-ok
+returns-clause-ok g c = (made g c).timeline

@@ -1,0 +1,63 @@
+"""What newcomers look for, and what it is called here: words with the names by which ./where finds it."""
+
+WORDS = (
+    (("user notification", "seccomp notify", "notif"), ("SECCOMP_RET_USER_NOTIF", "seccomp_notif")),
+    (("seccomp", "bpf", "system call filter", "syscall filter"), ("filter.c", "seccomp_data", "older.py")),
+    (("stays proved", "still proved", "wrong body", "vacuous", "negative test"), ("must-fail", ".ci/edits", "edit")),
+    (("mutation testing", "fault injection", "planted fault"), (".ci/mutants", "mutant")),
+    (("Fedora", "rpm", "dnf", "Arch", "Alpine", "distribution"), ("docs/ELSEWHERE.md", "Containerfile")),
+    (("deb", "package", "apt", "dpkg"), (".ci/debs", ".ci/installed/packages")),
+    (("install", "make install", "prefix"), ("./install", ".ci/installed/run", "uninstall")),
+    (("release", "abi", "compatibility", "semver"), ("docs/RELEASES.md", "RELEASE.md", ".ci/promised")),
+    (("try it", "without proofs", "unproved"), ("./try", ".ci/unproved", "trying")),
+    (("pip", "pypi", "wheel"), ("bindings/wheel", "bindings/python/setup.py")),
+    (("docker", "container", "github actions"), ("docs/ELSEWHERE.md", "Containerfile", "podman.sh")),
+    (("race", "data race", "race condition"), ("races.cases", "takes_turns", "tricks.py", "abuse.py")),
+    (("deadlock", "lock order", "hang"), ("WANTS_LOCK", "rule.py", "hangs.c")),
+    (("kill -9", "sigkill", "crash"), ("cgroup.kill", "zombies.py", "PTRACE_O_EXITKILL")),
+    (("fork bomb", "rlimit", "nproc"), ("pids.max", "PidsMax", "refused.py")),
+    (("quota", "limit"), ("pids.max", "cgroup.max.depth", "cgroup.max.descendants")),
+    (("memory limit", "cpu limit", "memory.max", "cpu.max"), ("--keep", "values.c")),
+    (("oom", "out of memory", "allocation failure"), ("AllocError", "MK_OUT_OF_MEMORY", "no_memory.py")),
+    (("ptrace", "debugger", "intercept"), ("tracer.c", "supervisor")),
+    (("fuse", "filesystem", "file system"), ("operations.c", "fuse_lowlevel_ops")),
+    (("inotify", "epoll", "event loop", "notification"), ("watch.c", "companion", "mk_wait_file")),
+    (("cgroup namespace", "clone_newcgroup", "unshare"), ("CLONE_NEWCGROUP", "namespaces.py")),
+    (("pid namespace", "clone_newpid"), ("CLONE_NEWPID", "NSpid")),
+    (("freeze", "pause", "suspend"), ("cgroup.freeze", "freezer.py")),
+    (("rollback", "transaction", "revert"), ("undo_journal", "mk_undo", "undo")),
+    (("snapshot", "clone the engine", "fork the engine"), ("Engine::copy", "mk_copy")),
+    (("log", "journal", "recording"), ("cgroup-trace", "undo_journal", "--trace")),
+    (("dry run", "simulate", "what if"), ("Engine::rehearse", "rehearsal")),
+    (("specification", "spec", "model"), ("flat_model", "specs", "evidence/model.py")),
+    (("theorem", "main theorem", "correctness"), ("KeepsHistory", "docs/PROVED.md")),
+    (("error code", "error", "errno"), ("Refusal", "word_tables", "docs/FORMATS.md")),
+    (("benchmark", "performance", "speed"), ("evidence/bench", "docs/MEASUREMENTS.md")),
+    (("linux", "kernel behaviour", "real kernel"), ("evidence/README.md", "evidence/compare", "evidence/check-kernel")),
+    (("ci", "pipeline", "presubmit"), (".ci/run", ".ci/quick", ".ci/full")),
+    (("failing check", "check fails", "red"), ("docs/FAILURES.md",)),
+    (("lint", "format", "formatter"), (".ci/style",)),
+    (("gui", "web", "html", "dashboard", "browser"), ("docs/LOOK.md", "makhloeum view", "page.py")),
+    (("cli", "command line", "usage"), ("main.c", "makhloeum.1", "completion")),
+    (("counter", "sharded counter", "scalable counter"), ("striped_adder", "snzi_core", "PlainMeter")),
+    (("thread pool", "parallel", "concurrency"), ("replay_main", "sessions", "desk")),
+)
+
+
+def called_here(name):
+    """The names here of what the words mean; none if they aren't in the table."""
+    asked = name.lower()
+    return [target for words, targets in WORDS if asked in map(str.lower, words) for target in targets]
+
+
+def faults_of_words(is_there):
+    """Names of the table that are no file and no word of the repository, and words that are there twice."""
+    seen = set()
+    for words, targets in WORDS:
+        for word in map(str.lower, words):
+            if word in seen:
+                yield f".ci/lookup/words.py: {word} is there twice"
+            seen.add(word)
+        for target in targets:
+            if not is_there(target.removeprefix("./")):
+                yield f".ci/lookup/words.py: {target} of {words[0]} is nowhere"

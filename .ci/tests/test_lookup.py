@@ -1,0 +1,395 @@
+"""Tests of what ./where and .ci/documents look up: types of receivers, definitions, parts, words of newcomers, the map of folders."""
+import os
+import sys
+import unittest
+
+TOP = os.path.dirname(os.path.dirname(os.path.dirname(os.path.realpath(__file__))))
+sys.dont_write_bytecode = True
+sys.path.insert(0, os.path.join(TOP, ".ci"))
+from lookup import code, definitions, folders, objects, receivers, screen, words  # noqa: E402
+
+TREE = """pub trait Walk {
+    fn step(&self) -> u64;
+}
+
+pub struct Node<A: Allocator> {
+    pub(crate) text: Text<A>,
+    children: Vec<Node<A>, A>,
+}
+
+pub enum Place<A: Allocator> {
+    Root,
+    Below(Node<A>),
+    Named { node: Node<A>, text: Text<A> },
+}
+
+pub struct Text<A: Allocator>(Vec<u8, A>);
+
+impl<A: Allocator> Walk for Node<A> {
+    fn step(&self) -> u64 {
+        0
+    }
+}
+
+impl<A: Allocator> Node<A> {
+    pub fn copy(&self, alloc: A) -> Result<Node<A>, AllocError> {
+        let text = self.text.copy(alloc)?;
+        for child in self.children.as_slice() {
+            child.copy(alloc)?;
+        }
+    }
+
+    pub fn first(&self) -> Option<&Node<A>> {
+        None
+    }
+}
+
+impl<A: Allocator> Text<A> {
+    pub fn copy(&self, alloc: A) -> Result<Text<A>, AllocError> {
+        self.0
+    }
+}
+"""
+
+CALLER = """fn call<W: Walk>(node: &Node<Global>, text: Text<Global>, walk: &W, place: &Place<Global>) {
+    node.copy(alloc);
+    text.copy(alloc);
+    let text = node.copy(alloc)?;
+    text.copy(alloc);
+    let Some(first) = node.first() else {
+        return;
+    };
+    first.text.copy(alloc);
+    node.children[0].copy(alloc);
+    match place {
+        Place::Below(one) => one.copy(alloc),
+        Place::Named { node: other, text } => text
+            .copy(alloc),
+    }
+    match node.first() {
+        Some(found) => found.copy(alloc),
+        None => unheard.copy(alloc),
+    }
+    let made: Text<Global> = make();
+    made.copy(alloc);
+    for at in 0..node.children.len() {
+        Node::copy(node, alloc);
+        Text::copy(made, alloc);
+    }
+    walk.step();
+    node.step();
+    guarded.lock(rt).copy(alloc);
+}
+
+fn again(one: &Node<Global>) {
+    let one = one.text.copy(alloc)?;
+    one.copy(alloc);
+}
+"""
+
+
+class Receivers(unittest.TestCase):
+    TEXTS = {"crates/low/src/tree.rt": TREE, "crates/high/src/caller.rt": CALLER}
+
+    def lines(self, name, owner, answer, path="crates/high/src/caller.rt"):
+        """The calls with that answer."""
+        found = receivers.Rattle(self.TEXTS).calls(path, name, owner)
+        lines = self.TEXTS[path].split("\n")
+        return [lines[at - 1].strip() for at in sorted(found) if found[at] is answer]
+
+    def test_each_way_to_know_a_type(self):
+        of_node = [
+            *(
+                "node.copy(alloc);",
+                "let text = node.copy(alloc)?;",
+                "text.copy(alloc);",
+                "node.children[0].copy(alloc);",
+            ),
+            *("Place::Below(one) => one.copy(alloc),", "Some(found) => found.copy(alloc),", "Node::copy(node, alloc);"),
+        ]
+        of_text = ["text.copy(alloc);", "first.text.copy(alloc);", ".copy(alloc),", "made.copy(alloc);"]
+        of_text += ["Text::copy(made, alloc);", "let one = one.text.copy(alloc)?;", "one.copy(alloc);"]
+        unknown = ["None => unheard.copy(alloc),", "guarded.lock(rt).copy(alloc);"]
+        for owner, other, own, others in (("Node", "Text", of_node, of_text), ("Text", "Node", of_text, of_node)):
+            self.assertEqual(self.lines("copy", owner, True), own, owner)
+            self.assertEqual(self.lines("copy", owner, False), others, other)
+            self.assertEqual(self.lines("copy", owner, None), unknown)
+
+    def test_a_name_is_bound_behind_its_value(self):
+        path = "crates/low/src/tree.rt"
+        self.assertEqual(self.lines("copy", "Text", True, path), ["let text = self.text.copy(alloc)?;"])
+        self.assertEqual(self.lines("copy", "Node", True, path), ["child.copy(alloc)?;"])
+
+    def test_traits(self):
+        self.assertEqual(self.lines("step", "Walk", True), ["walk.step();", "node.step();"])
+        self.assertEqual(self.lines("step", "Node", True), ["node.step();"])
+        self.assertEqual(self.lines("step", "Node", None), ["walk.step();"])
+
+    def test_a_call_may_name_its_types(self):
+        text = "fn f(node: &Node<A>) {\n    node.copy::<A>(alloc);\n    Node::copy::<Vec<A>>(node, alloc);\n}\n"
+        rattle = receivers.Rattle({**self.TEXTS, "crates/low/src/more.rt": text})
+        self.assertEqual(rattle.calls("crates/low/src/more.rt", "copy", "Node"), {2: True, 3: True})
+
+    def test_the_types_of_a_method_are_those_of_the_nearest_impl(self):
+        """A value of a type that is bound by a trait may have a method of the trait's name."""
+        text = "impl<W: Walk> A<W> {\n    fn f(&self, of: W) {\n        of.step();\n    }\n}\n\n"
+        text += "impl<W: Other> B<W> {\n    fn g(&self, of: W) {\n        of.step();\n    }\n}\n"
+        rattle = receivers.Rattle({**self.TEXTS, "crates/low/src/more.rt": text})
+        self.assertEqual(rattle.calls("crates/low/src/more.rt", "step", "Walk"), {3: True, 9: False})
+
+    def test_where_a_bracket_is_closed(self):
+        """Neither an arrow closes anything."""
+        for text in ("(a)", "(a => [b], c)", "<F: Fn(u8) -> Vec<u8>>", "{ x => (y), _ => {} }", "[(1, <A>)]"):
+            self.assertEqual(receivers.closed(f"before {text} > )", 7), 7 + len(text), text)
+        self.assertEqual(receivers.closed("(a", 0), 2)
+
+    def test_a_type_without_the_function_was_guessed_wrong(self):
+        rattle = receivers.Rattle(
+            {**self.TEXTS, "crates/low/src/more.rt": "fn f(place: Place<A>) {\n    place.copy();\n}\n"}
+        )
+        self.assertEqual(rattle.calls("crates/low/src/more.rt", "copy", "Node"), {2: None})
+
+
+class ObjectsOfOtherLanguages(unittest.TestCase):
+    TEXTS = {
+        "a.py": "class Tree:\n    def peak(self):\n        return self.peak()\n\nclass Other:\n    def peak(self):\n"
+        "        return self.peak()\n\ndef opened() -> Tree:\n    pass\n",
+        "b.py": "def f(tree: Tree, x):\n    tree.peak()\n    x.peak()\n    with opened() as y:\n        y.peak()\n"
+        "    z = Other()\n    z.peak()\n    Tree(1).peak()\n",
+        "a.go": "func Open(n int) (*Tree, error) {\n}\nfunc (t *Tree) Peak() int {\n\treturn t.Peak()\n}\n"
+        "func (o *Other) Peak() int {\n}\n",
+        "b.go": "func f(o *Other, x any) {\n\ttree, err := Open(1)\n\ttree.Peak()\n\to.Peak()\n\tx.Peak()\n}\n",
+    }
+
+    def test_python(self):
+        of = objects.Objects(self.TEXTS)
+        self.assertEqual(of.calls("a.py", "peak", "Tree"), {3: True, 7: False})
+        self.assertEqual(of.calls("b.py", "peak", "Tree"), {2: True, 3: None, 5: True, 7: False, 8: True})
+
+    def test_go(self):
+        of = objects.Objects(self.TEXTS)
+        self.assertEqual(of.calls("a.go", "Peak", "Tree"), {4: True})
+        self.assertEqual(of.calls("b.go", "Peak", "Tree"), {3: True, 4: False, 5: None})
+
+
+class Definitions(unittest.TestCase):
+    DEFINE = {
+        "a.rt": (
+            "pub fn IT(",
+            "    pub(crate) const fn IT<A>(",
+            "pub struct IT {",
+            "enum IT {",
+            "    IT,",
+            "    IT(u8),",
+            "mod IT;",
+        ),
+        "a.c": ("#define IT 1", "# define IT(x) (x)", "static int IT(void)", "uint32_t IT(", "struct IT {", "} IT;"),
+        "a.h": (
+            "static const int IT = 1;",
+            "extern char IT[];",
+            "\tIT = 1,",
+            "enum { ONE, IT };",
+            "enum { ONE, IT = 2 };",
+        ),
+        "a.py": ("class IT:", "    def IT(self):", "async def IT():", "IT: int = 1", "IT = 1"),
+        "a.go": (
+            "func IT(",
+            "func (t *T) IT()",
+            "type IT struct {",
+            "\tIT Code = C.MK_IT",
+            "\tIT uint = iota",
+            "var IT int",
+        ),
+        "a.mjs": ("export function IT(", "class IT {", "const ONE = 1, IT = 2;", "  IT(at) {", "  static async IT() {"),
+        "a.sh": ("IT() {", "IT=1"),
+        "script": ("IT() {", "def IT():"),
+        "a.mutants": ("== IT",),
+        "crates/a/specs/A.antt": ("abbrev pub IT = 1", "  pub IT : X", "unfoldable IT x = x"),
+    }
+    MENTION = ("x(IT)", "  return IT(x);", "call IT", "#ifdef IT", "// fn IT", "import IT", "x.IT = 1", "old: IT")
+
+    def test_a_line_that_defines_a_name(self):
+        for path, lines in self.DEFINE.items():
+            for line in lines:
+                for word, is_found in (("IT", True), ("AN_IT", False), ("IT_2", False)):
+                    found = definitions.definition_of(path, ["other", "IT"]).match(line.replace("IT", word))
+                    self.assertEqual(bool(found), is_found, (path, line, word))
+
+    def test_classes_of_each_language(self):
+        texts = {
+            "a.py": "class Tree:\n    pass\n",
+            "a.go": "type Node struct {\n",
+            "a.mjs": "export class Row {\n}\nclass Plot {\n}\n",
+            "a.rt": "pub struct Other {\n",
+            "b.py": "# class Comment:\nx = Tree\n",
+        }
+        for name, is_there in (
+            ("Tree", True),
+            ("Node", True),
+            ("Row", True),
+            ("Plot", True),
+            ("Other", False),
+            ("Comment", False),
+        ):
+            self.assertEqual(definitions.has_class(name, texts), is_there, name)
+
+    def test_a_line_that_mentions_it(self):
+        for path in self.DEFINE:
+            for line in self.MENTION:
+                self.assertIsNone(definitions.definition_of(path, ["IT"]).match(line), (path, line))
+        self.assertIsNone(definitions.definition_of("a.txt", ["IT"]))
+
+
+class Edits(unittest.TestCase):
+    def test_an_edit_names_the_functions_that_it_changes(self):
+        texts = {
+            "crates/a/src/lib.rt": "fn first() { 1 }\nfn second() { 2 }\nfn third() {\n    3\n}\n",
+            "crates/b/src/lib.rt": "fn other() { 1 }\n",
+            "crates/a/must-fail/x.edit": "file: src/lib.rt\nold: { 2 }\nnew: { 1 }\nold:     3\nnew:     1\n",
+            "crates/a/must-fail/y.edit": "# breaks: Step.limit_met\nfile: src/lib.rt\nold: { 1 }\nnew: { 2 }\n",
+            "crates/a/must-fail/z.edit": "file: src/lib.rt\nold: { 9 }\nnew: { 1 }\n",
+        }
+        for name, functions, said in (
+            ("x", ["second", "third"], ["second", "third"]),
+            ("y", ["first"], ["Step.limit_met"]),
+            ("z", [], ["no function"]),
+        ):
+            path = f"crates/a/must-fail/{name}.edit"
+            self.assertEqual(code.broken_by(path, texts), [("crates/a/src/lib.rt", it) for it in functions])
+            self.assertEqual(code.named_by(path, texts), said)
+
+
+class Functions(unittest.TestCase):
+    def test_the_function_of_each_line(self):
+        text = (
+            "fn free() {\n    1\n}\n\nimpl<A: Allocator> Tree<A> {\n    fn new() {\n    }\n}\n\nfn again() {\n}\n"
+            "pub trait Walk {\n    fn step();\n}\nimpl Walk for Tree {\n    fn step() {\n    }\n}\nmod inner {\n    fn more() {\n    }\n}\n"
+        )
+        wanted = {
+            1: "free",
+            2: "free",
+            6: "Tree::new",
+            7: "Tree::new",
+            10: "again",
+            13: "Walk::step",
+            16: "Tree::step",
+            20: "more",
+        }
+        found = code.functions_of(text)
+        self.assertEqual({line: found[line] for line in wanted}, wanted)
+        self.assertEqual([found[line] for line in (3, 4, 5, 8, 9, 11, 12, 14, 15, 18, 19)], [None] * 11)
+
+
+class Parts(unittest.TestCase):
+    def test_the_part_of_a_line(self):
+        for path, line, part in (
+            ("docs/MOUNT.md", "", "documents"),
+            ("man/makhloeum.1", "", "documents"),
+            ("crates/a/must-fail/x.edit", "old: x", "edits"),
+            ("mount/mutants/a.c.mutants", "", "mutants"),
+            ("evidence/linux-6.12/rows.recorded", "", "recordings"),
+            ("evidence/linux-6.12/kernel/config", "", "recordings"),
+            ("evidence/model.py", "", "tests"),
+            ("bindings/go/fs_test.go", "", "tests"),
+            ("crates/line_tests/src/main.rt", "", "tests"),
+            ("crates/word_tables/stdout", "", "code"),
+            ("mount/src/main.c", "ensures", "code"),
+            ("crates/a/proofs/sum/add", "", "proofs"),
+            ("crates/a_laws/src/x.rt", "fn f()", "laws"),
+            ("crates/a/src/laws.rt", "fn f()", "laws"),
+            ("crates/a/specs/Sum.antt", "", "specs"),
+            ("crates/a/src/sum.rt", "    ensures same { result ≡ 1 }", "clauses"),
+            ("crates/a/src/sum.rt", "    let x = 1;", "code"),
+        ):
+            self.assertEqual(code.part_of(path, line), part, (path, line))
+
+
+class Screens(unittest.TestCase):
+    def test_lists_are_in_the_order_of_names(self):
+        files = [f"{name}/{below}/x.c" for name in "dbca" for below in "zy"] + ["mount/src/b/x.c", "mount/src/a/x.c"]
+        wanted = [it for name in "abcd" for it in (name, f"{name}/y", f"{name}/z")]
+        found = folders.folders_of(files)
+        self.assertEqual(found, [*wanted, "mount", "mount/src", "mount/src/a", "mount/src/b"])
+
+    def test_files_are_counted_by_folders_of_a_depth(self):
+        hits = {path: [3, 8] for path in ("a/b/c/x.py", "a/b/d/y.py", "a/z.py", "e/f/x.py", "e/f/g/y.py")}
+        for depth, lines in (
+            (1, ["a/ 3 files", "e/ 2 files"]),
+            (2, ["a/b/ 2 files", "a/z.py(2)", "e/f/ 2 files"]),
+            (3, ["a/b/c/x.py(2)", "a/b/d/y.py(2)", "a/z.py(2)", "e/f/x.py(2)", "e/f/g/y.py(2)"]),
+        ):
+            self.assertEqual([*screen.by_count(hits, depth)], lines, depth)
+
+    def test_a_short_list_has_all_numbers_and_a_long_one_the_first(self):
+        few = {"crates/a/x.py": [1, 2, 3, 4, 5, 6], "b/y.py": [7]}
+        self.assertEqual(screen.fitting(few, 1, screen.of_numbers), ["b/y.py:7; a/x.py:1,2,3,4,5,6"])
+        many = {f"crates/a/{name}.py": [*range(10)] for name in "xyzuv"}
+        line = " ".join(f"{name}.py:0,1,2,3+6" for name in "uvxyz")
+        self.assertEqual(screen.fitting(many, 2, screen.of_numbers), [f"a/ {line}"])
+
+    def test_what_fits_fills_the_room(self):
+        self.assertTrue(screen.fits(["x" * screen.ROOM] * 3, 3))
+        self.assertFalse(screen.fits(["x"] * 4, 3))
+        self.assertFalse(screen.fits(["x" * (screen.ROOM + 1)], 3))
+
+
+class Words(unittest.TestCase):
+    def test_the_table_has_no_word_twice_and_names_what_is_there(self):
+        self.assertEqual([*words.faults_of_words(lambda name: True)], [])
+        some = words.WORDS[0][1][0]
+        fault = f".ci/lookup/words.py: {some} of {words.WORDS[0][0][0]} is nowhere"
+        self.assertEqual([*words.faults_of_words(lambda name: name != some)], [fault])
+
+
+class Folders(unittest.TestCase):
+    PAGE = "# A\n\n## The folders\n\n| Folder | What |\n|---|---|\n| `a`, `a/b/` | both |\n| `mount`, `mount/src` | c |\n\n## B\n\n| `d` | e |\n"
+    TEXTS = {
+        "docs/ARCHITECTURE.md": PAGE + "\n| `nowhere` | this table is another |\n",
+        "docs/README.md": "What is there.\n",
+        "a/b/c/deep.py": "",
+        "crates/one/src/lib.rt": "",
+        "crates/README.md": "Crates.\n",
+        "mount/src/common/common.h": "/* What all use. */\n",
+        "mount/src/server/serve.h": "/* server/: answers the kernel. */\n",
+    }
+
+    def faults(self, **changes):
+        texts = {**self.TEXTS, **{path.replace("_S_", "/").replace("_D_", "."): text for path, text in changes.items()}}
+        return [*folders.faults_of_folders([path for path in texts if texts[path] is not None], texts.get)]
+
+    def test_a_line_or_a_head(self):
+        self.assertEqual(self.faults(), [])
+
+    def test_a_folder_without_either(self):
+        where = "no line under `## The folders` of docs/ARCHITECTURE.md, and no head that says what is there"
+        for path, folder in (
+            ("new_S_x_D_c", "new"),
+            ("a_S_new_S_x_D_c", "a/new"),
+            ("mount_S_src_S_new_S_x_D_h", "mount/src/new"),
+        ):
+            self.assertEqual(self.faults(**{path: "/* Something. */\n"}), [f"{folder}/: {where}"])
+        self.assertEqual(self.faults(mount_S_src_S_server_S_serve_D_h="int x;\n"), [f"mount/src/server/: {where}"])
+        self.assertEqual(self.faults(mount_S_tests_S_x_D_py="import os\n"), [f"mount/tests/: {where}"])
+        self.assertEqual(self.faults(docs_S_README_D_md="\n"), [f"docs/: {where}"])
+
+    def test_a_folder_below_the_second_level_needs_none(self):
+        self.assertEqual(self.faults(a_S_b_S_d_S_x_D_c=""), [])
+
+    def test_a_line_without_a_folder(self):
+        page = self.PAGE.replace("| c |", "| c |\n| `gone` | d |\n| `a/b/c` | |")
+        self.assertEqual(
+            self.faults(docs_S_ARCHITECTURE_D_md=page),
+            [
+                "docs/ARCHITECTURE.md: there is no folder gone",
+                "docs/ARCHITECTURE.md: nothing is said of the folder a/b/c",
+            ],
+        )
+
+    def test_a_page_without_the_table(self):
+        self.assertEqual(
+            self.faults(docs_S_ARCHITECTURE_D_md="# A\n"), ["docs/ARCHITECTURE.md: no heading `## The folders`"]
+        )
+
+
+if __name__ == "__main__":
+    unittest.main()

@@ -1,0 +1,169 @@
+"""Tests of bindings/models: what it takes for a wrong result, and how it makes a sequence short."""
+import os
+import sys
+import unittest
+
+from scripts import TOP, load
+
+models = load("bindings/models")
+sys.path.append(os.path.join(TOP, "bindings", "tests", "models"))
+from calls import World, playable  # noqa: E402
+from draw import WEIGHTS, Draw  # noqa: E402
+from shorten import ENDED, Wrong, shortened, wrong  # noqa: E402
+
+
+class Planted:
+    """A driver that answers as the model, but the last call of a sequence wrongly once these calls have come in this order."""
+
+    language = "c"
+
+    def __init__(self, *planted, wrongly="ok 7"):
+        self.planted, self.wrongly, self.played = planted, wrongly, 0
+
+    def results(self, lines):
+        world, calls, told = World(), iter(self.planted), []
+        due = next(calls)
+        for line in lines:
+            told.append(world.play(line) + " ## " * (" together " in line))
+            if due is not None and line.split(" ")[1] == due:
+                due = next(calls, None)
+                if due is None:
+                    told[-1] = self.wrongly
+        return told
+
+    def play(self, sequences):
+        self.played += 1
+        return [self.results(lines) for _, lines in sequences]
+
+
+def fault(lines, got):
+    """What the last result should have been, if it is wrong."""
+    world = World()
+    for line in lines[:-1]:
+        world.play(line)
+    return world.fault(lines[-1], got)
+
+
+class Results(unittest.TestCase):
+    def test_a_result_is_compared(self):
+        for lines, right, other in (
+            (["0 mkdir /a"], "ok", "no 1 17 exists"),
+            (["0 mkdir /a", "0 mkdir /a"], "no 1 17 exists", "no 1 17 nogroup"),
+            (["0 mkdir /a", "0 copy 1", "0 forget", "1 undo"], "ok mkdir%20/a", "no 14 61 nothing"),
+            (["0 mkdir /a", "0 forget", "0 copy 1", "1 undo"], "no 14 61 nothing", "ok mkdir%20/a"),
+            (["0 mkdir /a", "0 copy 1", "1 changes"], "ok 0", "ok 1"),
+            (["0 mkdir /a", "0 forget", "0 changes"], "ok 1", "ok 2"),
+            (["0 mkdir /a", "0 mkdir /b", "0 undoto 0", "0 changes"], "ok 3", "ok 4"),
+            (["0 copy 1", "0 close", "0 groups /"], "closed", "ok /"),
+            (["0 copy 1", "0 close", "1 groups /"], "ok /", "closed"),
+            (["0 fail /a 2 5", "0 has /a", "0 mkdir /a"], "failed 5", "ok"),
+            (["0 mkdir /a", "0 fork 1 2", "0 vanish / 1", "0 vanish /a 1", "0 has /a"], "ok 0", "ok 1"),
+            (["0 mkdir /a", "0 wait 1"], "timeout", "ok 1"),
+            (["0 await 0", "0 join 0"], "waits", "ok 1"),
+            (["0 await 0", "0 mkdir /a", "0 mkdir /b", "0 join 0"], "ok 1", "ok 3"),
+            (["0 await 0", "0 mkdir /a", "0 mkdir /b", "0 join 0"], "ok 2", "ok 0"),
+            (["0 await 0", "0 close", "0 join 0"], "closed", "waits"),
+        ):
+            self.assertIsNone(fault(lines, right), lines)
+            self.assertIsNotNone(fault(lines, other), lines)
+
+    def test_a_reply_may_be_left_out(self):
+        self.assertIsNone(fault(["0 mkdir /a/b"], "no 2 2"))
+        self.assertEqual(fault(["0 mkdir /a/b"], "no 2 2 nogroup%20/b"), "no 2 2 nogroup%20/a")
+
+    def test_threads_have_the_results_of_some_order(self):
+        line = "0 together fork 1 2 | depth || fork 1 2 | mkdir /a | changes"
+        for right in (
+            "ok | ok 1 || no 10 17 | ok | ok 2 ## fork%201%202,mkdir%20/a",
+            "ok | ok 2 || no 10 17 | ok | ok 2 ## fork%201%202,mkdir%20/a",
+            "no 10 17 | ok 1 || ok | ok | ok 2 ## fork%201%202,mkdir%20/a",
+        ):
+            self.assertIsNone(fault([line], right), right)
+        for other in (
+            "ok | ok 1 || ok | ok | ok 2 ## fork%201%202,mkdir%20/a",  # both forks
+            "ok | ok 0 || no 10 17 | ok | ok 2 ## fork%201%202,mkdir%20/a",  # its own fork isn't counted
+            "ok | ok 1 || no 10 17 | ok | ok 1 ## fork%201%202,mkdir%20/a",  # neither is its mkdir
+            "ok | ok 2 || no 10 17 | ok | ok 2 ## mkdir%20/a,fork%201%202",  # a later fork refused an earlier one
+            "ok | ok 2 || no 10 17 | ok | ok 2 ## fork%201%202",  # a command is missing
+            "ok | ok 2 || no 10 17 | ok | ok 2 ## fork%201%202,mkdir%20/a,mkdir%20/b",
+            "ok | ok 2 || no 10 17 | ok ## fork%201%202,mkdir%20/a",  # a result is missing
+            "closed",
+        ):
+            self.assertIsNotNone(fault([line], other), other)
+
+    def test_what_threads_did_counts_afterwards(self):
+        lines = ["0 together mkdir /a || mkdir /b", "0 undo"]
+        for history, undone in (("mkdir%20/a,mkdir%20/b", "mkdir%20/b"), ("mkdir%20/b,mkdir%20/a", "mkdir%20/a")):
+            self.assertIsNone(wrong("c", lines, [f"ok || ok ## {history}", f"ok {undone}"]))
+        self.assertEqual(wrong("c", lines, ["ok || ok ## mkdir%20/a,mkdir%20/b", "ok mkdir%20/a"]).line, 1)
+
+    def test_a_driver_that_ended_is_wrong(self):
+        self.assertEqual(wrong("go", ["0 depth"], None).got, ENDED)
+
+    def test_only_c_has_a_wait_for_a_file(self):
+        self.assertIsNone(wrong("go", ["0 waitfile / cgroup.procs x"], ["-"]))
+        self.assertIsNotNone(wrong("c", ["0 waitfile / cgroup.procs x"], ["-"]))
+        self.assertIsNotNone(wrong("go", ["0 depth"], ["-"]))
+
+
+class Drawn(unittest.TestCase):
+    def test_a_sequence_is_drawn_from_its_number(self):
+        first, again, other = (Draw(number).sequence() for number in (3, 3, 4))
+        self.assertEqual(first, again)
+        self.assertNotEqual(first, other)
+
+    def test_each_call_is_drawn_and_can_be_played(self):
+        sequences = [Draw(number).sequence() for number in range(60)]
+        calls = {line.split(" ")[1] for _, lines in sequences for line in lines}
+        self.assertEqual(calls, set(WEIGHTS))
+        self.assertEqual({how for how, _ in sequences}, {"new", "new threads"})
+        self.assertGreater(max(len(lines) for _, lines in sequences), 150)
+        for _, lines in sequences:
+            self.assertEqual(playable(lines), lines)
+
+
+class Short(unittest.TestCase):
+    def short(self, driver, sequence):
+        it = wrong(driver.language, sequence[1], driver.results(sequence[1]))
+        return shortened(driver, sequence, it, lambda: True)
+
+    def test_only_what_shows_it_is_left(self):
+        driver = Planted("fork", "forget", "peak")
+        more = [f"0 mkdir /g{number}" for number in range(20)]
+        for how in "new", "new threads":
+            lines = [*more, "0 fork 1 2", *more, "0 forget", "0 copy 1", "0 peak /g1", *more]
+            (short_how, short), it = self.short(driver, (how, lines))
+            self.assertEqual((short_how, [line.split(" ")[1] for line in short]), ("new", ["fork", "forget", "peak"]))
+            self.assertEqual((it.line, it.got), (2, "ok 7"))
+
+    def test_a_mark_becomes_smaller_with_what_was_before_it(self):
+        lines = [*(f"0 fork 1 {pid}" for pid in range(2, 40)), "0 undoto 30"]
+        (_, short), it = self.short(Planted("undoto", wrongly="ok 77"), ("new", lines))
+        self.assertEqual(len(short), 1)
+        self.assertEqual(it.got, "ok 77")
+
+    def test_calls_of_threads_are_left_out(self):
+        lines = ["0 mkdir /a", "0 together depth | changes || mkdir /b | depth || has /a", "0 close"]
+        (_, short), _ = self.short(Planted("together"), ("new", lines))
+        self.assertEqual(len(short), 1)
+        self.assertNotIn("|", short[0])
+
+    def test_without_time_it_stays_as_it_is(self):
+        driver = Planted("peak")
+        lines = ["0 mkdir /a", "0 peak /a"]
+        short = shortened(driver, ("new", lines), Wrong(1, "ok 7", "ok 0"), lambda: False)
+        self.assertEqual((short[0][1], driver.played), (lines, 0))
+
+
+class Words(unittest.TestCase):
+    def test_arguments(self):
+        self.assertEqual(models.arguments([]), (20.0, 0, ["c", "go", "python"]))
+        self.assertEqual(models.arguments(["3", "c"]), (3.0, 0, ["c"]))
+        self.assertEqual(models.arguments(["go", "0.5", "12"]), (0.5, 12, ["go"]))
+        self.assertGreaterEqual(models.arguments(["1", "random"])[1], 0)
+        for words in (["x"], ["1", "x"], ["1", "2", "3"], ["--help"]):
+            self.assertIsNone(models.arguments(words))
+
+
+if __name__ == "__main__":
+    unittest.main()

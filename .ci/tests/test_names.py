@@ -1,0 +1,142 @@
+"""Tests of what ./where knows of a name and of a number: constants, the table of words, and where a name begins and ends in a line."""
+import os
+import sys
+import unittest
+
+TOP = os.path.dirname(os.path.dirname(os.path.dirname(os.path.realpath(__file__))))
+sys.dont_write_bytecode = True
+sys.path.insert(0, os.path.join(TOP, ".ci"))
+from lookup import names, numbers  # noqa: E402
+
+
+class Constants(unittest.TestCase):
+    TEXTS = {
+        "a.rt": "pub const SLOTS: usize = 1024;\nconst ROWS: u16 = SLOTS as u16;\nconst NEAR: u64 = 1023;\n",
+        "a.rs": "static MOST: u64 = 1_024u64;\n",
+        "a.h": "#define GROUPS 0x400 /* all */\nenum { FIRST, SECOND = 1023, THIRD, /* x */ FOURTH = THIRD };\n",
+        "a.c": "static const int shifted = 1 << 10;\n\nenum {\n\tHALF = 512,\n\tWHOLE = 2 * HALF,\n};\n",
+        "a.go": "const slots, other = 1024, 3\nconst (\n\tOne = 1\n\tFromC Code = C.GROUPS // a comment\n)\n",
+        "a.py": "A, B = 1024, 5\nclass C:\n    ROOM: int = 4 * 256  # enough\nname = 1024\nROOM_2 = 1024\n",
+        "a.mjs": "export const WIDTH = 1024, HEIGHT = 3;\n",
+        "a.sh": "MOST=1024\n",
+        "script": "#!/usr/bin/env bash\nROOM=1024\n",
+        "other": "#!/usr/bin/env python3\nROOM = 1024\n",
+        "crates/x/specs/A.antt": "SLOTS = 1024\n",
+    }
+
+    def test_each_language_names_its_owners(self):
+        found = [(path, line, said) for path, line, said in numbers.owners(1024, self.TEXTS)]
+        self.assertEqual(
+            found,
+            [
+                *(("a.rt", 1, "SLOTS = 1024"), ("a.rt", 2, "ROWS = SLOTS as u16"), ("a.rs", 1, "MOST = 1_024u64")),
+                *(("a.h", 1, "GROUPS = 0x400"), ("a.h", 2, "THIRD = 1024"), ("a.h", 2, "FOURTH = THIRD")),
+                *(("a.c", 1, "shifted = 1 << 10"), ("a.c", 5, "WHOLE = 2 * HALF")),
+                *(("a.go", 4, "FromC = C.GROUPS"), ("a.go", 1, "slots = 1024")),
+                *(("a.py", 3, "ROOM = 4 * 256"), ("a.py", 5, "ROOM_2 = 1024"), ("a.py", 1, "A = 1024")),
+                ("a.mjs", 1, "WIDTH = 1024"),
+                *(("a.sh", 1, "MOST = 1024"), ("script", 2, "ROOM = 1024"), ("other", 2, "ROOM = 1024")),
+                ("crates/x/specs/A.antt", 1, "SLOTS = 1024"),
+            ],
+        )
+
+    def test_the_first_enumerator_is_zero(self):
+        self.assertEqual([*numbers.owners(0, self.TEXTS)], [("a.h", 2, "FIRST = 0")])
+
+    def test_numbers_as_they_are_asked_for(self):
+        for text in ("1024", "1,024", "1_024", "0x400"):
+            self.assertEqual(numbers.value_of(text), 1024)
+        for text in ("0xabc", "0XABC", "0xAbC", "2748", "2,748"):
+            self.assertEqual(numbers.value_of(text), 2748, text)
+        for text in ("1024k", "mkdir", "1.5", "-1", "010"):
+            self.assertIsNone(numbers.value_of(text), text)
+
+
+class Table(unittest.TestCase):
+    ROWS = (
+        ("file", "pids.max", "no", "yes", "number", "-", "text"),
+        ("file", "cgroup.kill", "yes", "no", "-", "-", "-"),
+        ("refusal", "2", "NoGroup", "MK_NO_GROUP", "1 refused nogroup /a", "ENOENT", "no group", "a meaning"),
+        ("path", "4", "EmptyName", "MK_EMPTY_NAME", "of the name", "EINVAL", "a name is empty", "an empty name"),
+        ("status", "3", "MK_TOO_SMALL", "ERANGE", "too small", "the buffer is too small"),
+        ("status", "0", "MK_DONE", "-", "done", "answered"),
+        ("number", "SLOTS", "1024", "groups"),
+        ("command", "mkdir /a", "PATH", "makes a group"),
+    )
+    TEXTS = {
+        names.TABLE: "# a comment\n" + "".join("\t".join(row) + "\n" for row in ROWS),
+        names.FILES: 'File::Limit => Row::new(b"pids.max"),\nFile::Kill => {\n    Row::new(\n        b"cgroup.kill"),\n',
+        names.MEANINGS: "refusal_of (model.NoGroup p) = refused.NoGroup p\n",
+    }
+
+    def test_the_names_of_one_thing_and_what_it_is(self):
+        for name, others, said in (
+            ("pids.max", ["Limit"], "file: not on the root, read, written: number; text"),
+            ("cgroup.kill", ["Kill"], "file: on the root, not read, not written"),
+            (
+                "NoGroup",
+                ["MK_NO_GROUP", "nogroup"],
+                "code 2: NoGroup, MK_NO_GROUP, `refused nogroup /a`, ENOENT: a meaning",
+            ),
+            (
+                "nogroup",
+                ["MK_NO_GROUP", "NoGroup"],
+                "code 2: NoGroup, MK_NO_GROUP, `refused nogroup /a`, ENOENT: a meaning",
+            ),
+            ("ENOENT", [], "code 2: NoGroup, MK_NO_GROUP, `refused nogroup /a`, ENOENT: a meaning"),
+            (
+                "EmptyName",
+                ["MK_EMPTY_NAME"],
+                "fault 4 of a path: EmptyName, MK_EMPTY_NAME, EINVAL of a mkdir: an empty name",
+            ),
+            ("EINVAL", [], "fault 4 of a path: EmptyName, MK_EMPTY_NAME, EINVAL of a mkdir: an empty name"),
+            ("ERANGE", [], "status 3: MK_TOO_SMALL, ERANGE: the buffer is too small"),
+            ("MK_DONE", [], "status 0: MK_DONE: answered"),
+            ("mkdir", [], "command: mkdir PATH: makes a group"),
+        ):
+            self.assertEqual(names.same_things(name, self.TEXTS), (others, [said]), name)
+        for name in ("SLOTS", "1024", "1,024", "1_024"):
+            others, said = names.same_things(name, self.TEXTS)
+            self.assertEqual(said, ["number: SLOTS is 1,024: groups"], name)
+            self.assertEqual(sorted({"SLOTS", "1024", "1,024", "1_024"} - {name}), others, name)
+        self.assertEqual(names.same_things("rmdir", self.TEXTS), ([], []))
+
+
+class Names(unittest.TestCase):
+    def test_a_name_with_hyphens_is_no_part_of_a_longer_one(self):
+        for name, longer in (
+            ("limit-of-zero", "limit-of-zero-is-none"),
+            ("of-zero", "limit-of-zero"),
+            ("a-b.c", "x-a-b.c"),
+        ):
+            self.assertFalse(names.pattern_of([name]).search(f"== {longer}"), name)
+            self.assertEqual(names.longer_words([name], f"== {longer}"), {longer})
+            self.assertTrue(names.pattern_of([name]).search(f"mount/{name}:"))
+        self.assertTrue(names.pattern_of(["zero"]).search("limit-of-zero"))
+
+    def test_a_number_is_no_part_of_another(self):
+        for text in ("4096", "a 4096.", "(4096, 1)", "4096;", "\\n4096"):
+            self.assertTrue(names.pattern_of(["4096"]).search(text), text)
+        for text in ("4096.5", "4096,000", "14096", "1,4096", "1.4096", "4096_000", "x4096", "40960"):
+            self.assertFalse(names.pattern_of(["4096"]).search(text), text)
+
+    def test_a_word_of_an_answer_is_a_name_unless_it_is_english(self):
+        own = (
+            "nogroup",
+            "noslot",
+            "rootfixed",
+            "haschildren",
+            "hasprocesses",
+            "noprocess",
+            "pidinuse",
+            "pidsmax",
+            "nofile",
+        )
+        english = ("exists", "descendants", "depth", "direction", "nothing", "syntax", "path", "file", "value")
+        for word, name in (*((it, it) for it in own), *((it, f"refused {it}") for it in english)):
+            row = ("1", "InPython", "MK_IN_C", f"1 refused {word} /a", "ENOENT", "a message", "a meaning")
+            self.assertEqual(names.of_code("MK_IN_C", row, {})[0], ["InPython", "MK_IN_C", name])
+
+
+if __name__ == "__main__":
+    unittest.main()

@@ -1,0 +1,261 @@
+"""Tests of what makes packages, some with made-up tools: the Python package, which glibc a wheel's library may need, the version and
+the date of all files, and which files a tree has."""
+import hashlib
+import os
+import runpy
+import shutil
+import stat
+import subprocess
+import sys
+import tempfile
+import types
+import unittest
+from unittest import mock
+
+TOP = os.path.dirname(os.path.dirname(os.path.dirname(os.path.realpath(__file__))))
+
+
+class Packages(unittest.TestCase):
+    def setUp(self):
+        self.top = tempfile.mkdtemp()
+        self.addCleanup(shutil.rmtree, self.top)
+
+    def write(self, path, text, mode=0o644):
+        at = os.path.join(self.top, path)
+        os.makedirs(os.path.dirname(at), exist_ok=True)
+        with open(at, "w", encoding="utf-8") as it:
+            it.write(text)
+        os.chmod(at, mode)
+
+    def read(self, path):
+        with open(os.path.join(self.top, path), encoding="utf-8") as it:
+            return it.read()
+
+    def copy(self, *paths):
+        for path in paths:
+            os.makedirs(os.path.dirname(os.path.join(self.top, path)), exist_ok=True)
+            shutil.copy(os.path.join(TOP, path), os.path.join(self.top, path))
+
+    def run_it(self, *words, **more):
+        environment = dict(os.environ, PATH=f"{self.top}/tools:{os.environ['PATH']}", LC_ALL="C", **more)
+        ran = subprocess.run(
+            words, cwd=self.top, env=environment, stdin=subprocess.DEVNULL, capture_output=True, text=True, timeout=600
+        )
+        return ran.returncode, ran.stdout, ran.stderr
+
+    def wheel(self, *versions):
+        """What bindings/wheel does of a library that needs these versions of glibc: its status and message."""
+        self.copy("bindings/wheel", "bindings/package", "bindings/version", "bindings/c/makhloeum.h", ".ci/date")
+        self.copy("LICENSE-MIT", "LICENSE-APACHE")
+        for name in ("pyproject.toml", "setup.py", "README.md", "makhloeum_pytest.py", "makhloeum/__init__.py"):
+            self.write(f"bindings/python/{name}", "")
+        for name in ("page", "check"):
+            self.write(f"look/{name}/__init__.py", "")
+        for name in ("rows", "text"):
+            self.write(f"evidence/linux-6.12/{name}.recorded", "")
+        self.write("bindings/out/libmakhloeum.so", "a library")
+        symbols = "".join(f"0000 DF *UND* 0000 (GLIBC_{version}) a_call\n" for version in versions)
+        self.write("tools/objdump", f"#!/bin/sh\nprintf %s '{symbols}'\n", 0o755)
+        self.write("tools/strip", '#!/bin/sh\nfor last; do :; done\ncp "$last" "$4"\n', 0o755)
+        self.write("tools/python", "#!/bin/sh\n>makhloeum-1.whl\n", 0o755)
+        status, _, said = self.run_it("bindings/wheel", self.top, PYTHON=f"{self.top}/tools/python")
+        self.assertEqual(os.path.exists(f"{self.top}/makhloeum-1.whl"), status == 0)
+        return status, said
+
+    def test_a_library_that_needs_an_older_glibc_gives_a_wheel(self):
+        self.assertEqual(self.wheel("2.2.5", "2.4", "2.36", "2.34"), (0, ""))
+
+    def test_the_newest_glibc_is_found_by_its_number(self):
+        refused = "bindings/wheel: the library needs glibc %s, newer than the 2.36 of the wheel's tag\n"
+        # as texts, 2.4 and 2.9 come after 2.38
+        for versions in (("2.38",), ("2.4", "2.38"), ("2.38", "2.4", "2.9"), ("2.37", "2.38", "2.36")):
+            self.assertEqual(self.wheel(*versions), (1, refused % "2.38"), versions)
+        self.assertEqual(self.wheel("2.100", "2.4"), (1, refused % "2.100"))
+
+    def test_the_python_package_has_each_source_for_everybody(self):
+        before = os.umask(0o077)
+        self.addCleanup(os.umask, before)
+        self.copy("bindings/package")
+        for folder in ("bindings/python/makhloeum", "look/page", "look/check", "evidence/linux-6.12"):
+            shutil.copytree(f"{TOP}/{folder}", f"{self.top}/{folder}")
+            for name in os.listdir(f"{self.top}/{folder}"):
+                os.chmod(f"{self.top}/{folder}/{name}", 0o700)
+        self.assertEqual(self.run_it("bindings/package", f"{self.top}/to"), (0, "", ""))
+        wanted = {}
+        for source, place in (("bindings/python/makhloeum", ""), ("look/page", "page/"), ("look/check", "check/")):
+            names = (it.name for it in os.scandir(f"{TOP}/{source}") if it.is_file() and it.name[0] != ".")
+            wanted.update({place + name: f"{source}/{name}" for name in names})
+        for name in ("rows.recorded", "text.recorded"):
+            wanted[f"check/worked/{name}"] = f"evidence/linux-6.12/{name}"
+        self.assertGreater(len(wanted), 40)
+        at = f"{self.top}/to/makhloeum"
+        for name, source in wanted.items():
+            with open(f"{at}/{name}", "rb") as packed, open(f"{TOP}/{source}", "rb") as own:
+                self.assertEqual(packed.read(), own.read(), name)
+        for folder, below, names in os.walk(at):
+            for name in (*below, *names):
+                mode = stat.S_IMODE(os.stat(os.path.join(folder, name)).st_mode)
+                self.assertEqual(mode, 0o755 if name in below else 0o644, name)
+
+    def library(self, **environment):
+        """The library that setup.py takes, with made-up setuptools: its path here, or why there is none."""
+        self.copy("bindings/python/setup.py", "bindings/python/makhloeum/_library.py")
+        made_up = {name: types.ModuleType(name) for name in ("setuptools", "setuptools.command", "wheel", "ctypes")}
+        made_up["setuptools"].setup = lambda **_: None
+        made_up["ctypes"].CDLL, made_up["ctypes"].c_char_p = mock.MagicMock(), None
+        for name, kind in (("setuptools.command.build_py", "build_py"), ("wheel.bdist_wheel", "bdist_wheel")):
+            made_up[name] = types.ModuleType(name)
+            setattr(made_up[name], kind, object)
+        with mock.patch.dict(sys.modules, made_up), mock.patch.dict(os.environ, environment):
+            try:
+                setup = runpy.run_path(f"{self.top}/bindings/python/setup.py")
+            except SystemExit as no:
+                return str(no).replace(self.top, "")
+            return str(setup["library"]()).replace(os.path.realpath(self.top), "")
+
+    def test_which_library_a_wheel_has(self):
+        name = "libmakhloeum.so.1"
+        given = {"MAKHLOEUM_LIBRARY": f"{self.top}/given.so"}
+        missing = "makhloeum: %s is missing: run bindings/build first, or set MAKHLOEUM_LIBRARY to the path of " + name
+        self.assertEqual(self.library(MAKHLOEUM_LIBRARY=""), missing % f"/bindings/out/{name}")
+        self.assertEqual(self.library(**given), missing % "/given.so")
+        self.write(f"bindings/out/{name}", "")
+        self.assertEqual(self.library(MAKHLOEUM_LIBRARY=""), f"/bindings/out/{name}")
+        self.assertEqual(self.library(**given), missing % "/given.so")
+        self.write("given.so", "")
+        self.assertEqual(self.library(**given), "/given.so")
+        self.write(f"bindings/python/makhloeum/{name}", "")
+        self.assertEqual(self.library(**given), f"/bindings/python/makhloeum/{name}")
+
+    def test_the_version_is_that_of_the_header(self):
+        self.copy("bindings/version")
+        numbers = "".join(
+            f"#define MK_VERSION_{name} {n}\n" for name, n in (("MAJOR", 12), ("MINOR", 0), ("PATCH", 345))
+        )
+        self.write(
+            "bindings/c/makhloeum.h",
+            f"/* #define MK_VERSION_MAJOR 9 */\n   Its date is 2026-03-04.\n{numbers}#define MK_VERSION_MAJOR_2 7\n",
+        )
+        self.assertEqual(self.run_it("bindings/version"), (0, "12.0.345\n", ""))
+        self.assertEqual(self.run_it("bindings/version", "soname"), (0, "libmakhloeum.so.12\n", ""))
+        self.assertEqual(self.run_it("bindings/version", "date"), (0, "2026-03-04\n", ""))
+        self.assertEqual(self.run_it("bindings/version", "x"), (2, "", "usage: bindings/version [soname | date]\n"))
+
+    def test_the_changelog_has_the_version_and_its_date_first(self):
+        version, date = (self.run_it(f"{TOP}/bindings/version", *words)[1].strip() for words in ((), ("date",)))
+        with open(f"{TOP}/CHANGELOG.md", encoding="utf-8") as it:
+            first = next(line for line in it if line.startswith("## "))
+        self.assertEqual(first, f"## {version}, {date}\n")
+
+    def test_each_program_and_each_call_is_found_in_a_tree(self):
+        """Shells find a completion by the name of its program, `man` a page by that of a call."""
+        if not os.path.exists(f"{TOP}/bindings/out/libmakhloeum.a") or not shutil.which("objcopy"):
+            self.skipTest("there is no library, or no objcopy")
+        self.assertEqual(self.run_it(f"{TOP}/.ci/tree", f"{self.top}/tree")[0], 0)
+        at = f"{self.top}/tree/share"
+        for program in ("cgreplay", "cgshell", "makhloeum"):
+            with open(f"{at}/bash-completion/completions/{program}", encoding="ascii") as it:
+                self.assertIn(program, it.read())
+            with open(f"{at}/fish/vendor_completions.d/{program}.fish", encoding="ascii") as it:
+                self.assertIn(f"complete -c {program} ", it.read())
+        with open(f"{at}/zsh/site-functions/_makhloeum", encoding="ascii") as it:
+            self.assertEqual(it.readline(), "#compdef cgreplay cgshell makhloeum\n")
+        with open(f"{TOP}/bindings/c/makhloeum.h", encoding="ascii") as it:
+            calls = sorted(
+                {
+                    line.split("(")[0].split()[-1].lstrip("*")
+                    for line in it
+                    if line.startswith(("uint32_t mk_", "const mk_file *mk_"))
+                }
+            )
+        self.assertGreaterEqual(len(calls), 40)
+        for call in calls:
+            with open(f"{at}/man/man3/{call}.3", encoding="ascii") as it:
+                self.assertIn(f"fB{call}", it.read(), call)
+        date = self.run_it(f"{TOP}/bindings/version", "date")[1].strip()
+        for page in ("man1/cgshell.1", "man3/mk_open.3", "man5/cgroup-trace.5"):
+            with open(f"{at}/man/{page}", encoding="ascii") as it:
+                self.assertEqual(it.readline().split()[3], f'"{date}"')
+        for command in ("view", "tree", "check"):
+            self.assertTrue(os.access(f"{self.top}/tree/libexec/makhloeum/makhloeum-{command}", os.X_OK), command)
+        self.assertFalse([name for name in os.listdir(f"{at}/makhloeum/go") if name.endswith("_test.go")])
+
+    def test_a_library_says_how_it_was_made(self):
+        """Its version is that of the header; after that of ./try's library come two words."""
+        made, tools = f"{TOP}/crates/c_library/out/libc_library.a", ("rt", "ar", "objcopy", "cc")
+        if not os.path.exists(made) or not all(map(shutil.which, tools)):
+            self.skipTest("there is no library, or a tool is missing")
+        shutil.copytree(
+            f"{TOP}/bindings", f"{self.top}/bindings", ignore=shutil.ignore_patterns("out", "python", "mutants")
+        )
+        self.write("mark.c", 'const char mk0_without_proofs[] = "without proofs";\n')
+        subprocess.run(["cc", "-c", "mark.c", "-o", "without_proofs.o"], cwd=self.top, check=True)
+        at = f"{self.top}/crates/c_library/out/libc_library.a"
+        os.makedirs(os.path.dirname(at))
+        for change, more in (("d", ""), ("r", " without proofs")):
+            shutil.copy(made, at)
+            subprocess.run(["ar", change, at, f"{self.top}/without_proofs.o"], check=True)
+            self.assertEqual(self.run_it("bindings/build")[0], 0)
+            program = "import ctypes, sys; call = ctypes.CDLL(sys.argv[1]).mk_version; call.restype = ctypes.c_char_p"
+            program += "; print(call().decode())"
+            library = f"{self.top}/bindings/out/libmakhloeum.so.1"
+            version = self.run_it("bindings/version")[1].strip()
+            self.assertEqual(self.run_it("python3", "-c", program, library)[1], f"{version}{more}\n")
+
+    def dist(self, *words):
+        """What .ci/dist does of a tree whose program has the words of its version: its status, message and archives."""
+        self.copy(
+            ".ci/dist",
+            ".ci/proved",
+            ".ci/date",
+            "LICENSE-MIT",
+            "LICENSE-APACHE",
+            "install",
+            "uninstall",
+        )
+        self.write("CHANGELOG.md", "# Changelog\n\n## 1.2.3, 2026-03-04\n\n- a\n\n## 1.2.2, 2026-03-01\n\n- b\n")
+        self.write("bindings/version", '#!/bin/sh\n[ "${1:-}" = date ] && echo 2026-03-04 || echo 1.2.3\n', 0o755)
+        tree = 'for it in bin lib share/doc/makhloeum share/makhloeum/go; do mkdir -p "$1/$it"; done; cp said "$1/bin/tool"'
+        self.write(".ci/tree", f"#!/bin/sh\n{tree}\n", 0o755)
+        self.write(".ci/debs", '#!/bin/sh\necho a package >"$2/a.deb"\n', 0o755)
+        self.write("tools/python3", "#!/bin/sh\nexit 1\n", 0o755)
+        self.write("bindings/wheel", "#!/bin/sh\n", 0o755)
+        shutil.rmtree(f"{self.top}/out", ignore_errors=True)
+        status, _, said = self.run_it(".ci/dist", *words)
+        return status, said, sorted(os.listdir(f"{self.top}/out")) if os.path.isdir(f"{self.top}/out") else []
+
+    def test_an_archive_has_what_was_made_without_proofs_only_if_asked(self):
+        self.write("said", "tool 1.2.3\n")
+        names = self.dist()[2]
+        self.assertEqual(self.dist()[0], 0)
+        self.assertTrue([name for name in names if name.startswith("makhloeum-1.2.3-")], names)
+        self.write("said", "\0tool 1.2.3 without proofs\0\n")
+        status, said, made = self.dist()
+        self.assertEqual((status, made), (1, []))
+        self.assertIn("/bin/tool was made without proofs, by ./try\n", said)
+        self.assertEqual(self.dist("--unproved")[::2], (0, names))
+
+    def test_a_release_has_checksums_and_notes(self):
+        self.write("said", "tool 1.2.3\n")
+        status, _, names = self.dist()
+        machine = os.uname().machine
+        archives = [f"{it}makhloeum-1.2.3-{machine}.tar.gz" for it in ("", "go-")]
+        self.assertEqual((status, names), (0, sorted([*archives, "a.deb", "SHA256SUMS", "release-notes.md"])))
+        sums = dict(reversed(line.split()) for line in self.read("out/SHA256SUMS").splitlines())
+        self.assertEqual(sorted(sums), sorted(set(names) - {"SHA256SUMS"}))
+        for name, noted in sums.items():
+            with open(f"{self.top}/out/{name}", "rb") as it:
+                self.assertEqual(hashlib.sha256(it.read()).hexdigest(), noted, name)
+        self.assertEqual(self.read("out/release-notes.md"), "## 1.2.3, 2026-03-04\n\n- a\n\n")
+
+    def test_the_date_is_that_of_the_version(self):
+        self.copy(".ci/date", "bindings/version")
+        self.write(
+            "bindings/c/makhloeum.h", "/* The version.\n   Its date is 2026-03-04. */\n   Its date is 2026-03-04.\n"
+        )
+        for zone in ("UTC", "Pacific/Kiritimati", "America/Anchorage"):
+            self.assertEqual(self.run_it(".ci/date", TZ=zone), (0, "1772582400\n", ""))
+
+
+if __name__ == "__main__":
+    unittest.main()

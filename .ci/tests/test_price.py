@@ -1,0 +1,100 @@
+"""Tests of .ci/price: which part a process of the prover works on, what its seconds are, and the table."""
+import contextlib
+import io
+import os
+import shutil
+import subprocess
+import sys
+import tempfile
+import unittest
+
+from scripts import MadeUp, load
+
+price = load(".ci/price")
+# A process that ends once it has taken a second of processor time.
+BUSY = "import time\nwhile time.process_time() < 1: pass"
+
+
+class Price(MadeUp):
+    program = price
+
+    def setUp(self):
+        self.top = tempfile.mkdtemp()
+        self.addCleanup(shutil.rmtree, self.top)
+
+    def test_the_part_that_a_process_works_on(self):
+        clone, edit = "/tmp/price-x/clone/crates/a", "/tmp/rt-edit-1/crates/a"
+        for words, folder, part in (
+            (["rattle", "build", "--crate-name", "a"], clone, ("a", "proof")),
+            (["rattle", "check", "--crate-name", "a", "--test"], clone, ("a", "tests")),
+            (["rattle", "build", "--crate-name", "a", "--crate-checked"], clone, ("a", "built")),
+            (["rattle", "check", "--crate-name", "a", "--test"], edit, ("a", "edit")),
+            (["rattle", "check", "--crate-name", "a"], "/tmp/elsewhere", ("what must not compile", "proof")),
+            (["rattle", "--version"], clone, price.OTHER),
+        ):
+            self.assertEqual(price.part_of(words, folder), part, words)
+
+    def test_nothing_is_measured_without_a_clone(self):
+        with contextlib.redirect_stderr(io.StringIO()):
+            self.assertRaises(subprocess.CalledProcessError, price.clone, f"{self.top}/none", self.top)
+        self.assertFalse(os.path.exists(f"{self.top}/clone"))
+
+    def test_the_seconds_of_each_crate(self):
+        parts = [
+            (("low", "proof"), 10.0, 15.0, 4.0),
+            (("high", "proof"), 11.0, 21.0, 20.0),
+            (("low", "edit"), 30.0, 32.0, 1.0),
+            (("low", "edit"), 32.0, 36.0, 3.0),
+            (("low", "edit"), 36.0, 37.0, 0.0),
+            (("low", "tests"), 40.0, 41.0, 2.0),
+        ]
+        rows = price.table_of(parts)
+        low = {
+            "proof": (4.0, 5.0, 1),
+            "edits": (4.0, 7.0, 3),
+            "first": (1.0, 2.0, 1),
+            "others": (3.0, 5.0, 2),
+            "tests": (2.0, 1.0, 1),
+        }
+        self.assertEqual(rows, {"low": low, "high": {"proof": (20.0, 10.0, 1)}})
+        # one of the edits is the check without one; the first and the others are those of `edits`
+        self.assertEqual(
+            price.shown(rows).split("\n"),
+            [
+                "| Crate | proof | tests | edits | first | others | built | all |",
+                "|---|---|---|---|---|---|---|---|",
+                "| `high` | 20 (10) |  |  |  |  |  | 20 |",
+                "| `low` | 4 (5) | 2 (1) | 2: 4 (7) | 1 (2) | 3 (5) |  | 10 |",
+                "| all | 24 (15) | 2 (1) | 4 (7) | 1 (2) | 3 (5) | 0 (0) | 30 |",
+            ],
+        )
+
+    def test_processes_of_the_prover_are_watched(self):
+        """Each by its name; one that another of them started counts with that one."""
+        folder = os.path.join(self.top, "clone", "crates", "a")
+        os.makedirs(folder)
+        prover = os.path.join(self.top, "rattle")
+        os.symlink(sys.executable, prover)
+        inner = f"import subprocess; subprocess.run([{prover!r}, '-c', {BUSY!r}, 'below it'])"
+        gate = (
+            f'cd {folder}; {prover} -c "$1" --crate-name made_up_one; {prover} -c "$2" --crate-name made_up_two --test'
+        )
+        words = ["bash", "-c", f"{gate}; echo 'the last line'; exit 3", "gate", BUSY, inner]
+        said = io.StringIO()
+        with contextlib.redirect_stderr(said):
+            status, lines, _, parts = price.watched(words, self.top, dict(os.environ))
+        self.assertEqual((status, lines, said.getvalue()), (3, ["the last line"], "the last line\n"))
+        # provers of other sessions on this machine are seen too
+        ours = [it for it in parts if it[0][0].startswith("made_up")]
+        self.assertEqual([part for part, *_ in ours], [("made_up_one", "proof"), ("made_up_two", "tests")])
+        for _, began, ended, used in ours:
+            self.assertLess(began, ended)
+            self.assertTrue(0.2 < used < 3, used)
+
+    def test_other_words_are_refused(self):
+        for words in (["--slow"], ["--side", "--side"]):
+            self.assertIn(".ci/price --side", self.said(*words, status=2))
+
+
+if __name__ == "__main__":
+    unittest.main()

@@ -1,0 +1,122 @@
+"""Tests of .ci/unproved in a made-up repository, with a script in place of rt."""
+import os
+import subprocess
+from unittest import main, mock
+
+from scripts import MadeUp, load
+
+unproved = load(".ci/unproved")
+# It notes its crate and its words. In a crate, `fails` makes a test fail, `says` is the output of the program.
+RT = """#!/bin/sh
+echo "$(basename "$PWD") $*" >>%s/calls
+cat >given
+case $* in
+*--test*) [ ! -e fails ] || { echo "a test fails"; exit 1; } ;;
+*) cat says ;;
+esac
+"""
+CRATES = "# A head: not a crate\nlow:\nmiddle with-words: low std\nhigh: middle\nbeside: std\nprogram: beside\n"
+TEST = "#[test]\nfn a() {}\n"
+
+
+class Unproved(MadeUp):
+    program = unproved
+
+    def setUp(self):
+        super().setUp()
+        self.write("tools/rt", RT % self.top, 0o755)
+        patcher = mock.patch.dict(os.environ, PATH=f"{self.top}/tools:{os.environ['PATH']}")
+        patcher.start()
+        self.addCleanup(patcher.stop)
+        self.write("crates.txt", CRATES)
+        for name in ("low", "high", "beside"):
+            self.write(f"crates/{name}/src/lib.rt", TEST)
+        self.write("crates/middle/src/lib.rt", "fn without_a_test() {}\n")
+        for name, text in {
+            "src/main.rt": "fn main() {}\n",
+            "stdin": "in\n",
+            "stdout": "out\n",
+            "says": "out\n",
+        }.items():
+            self.write(f"crates/program/{name}", text)
+        self.write(".gitignore", "calls\ngiven\ntools/\n")
+        self.git("init", "--quiet", "--initial-branch", "main")
+        self.git("add", "-A")
+        self.git("commit", "--quiet", "--message", "a")
+
+    def git(self, *words):
+        who = ["-c", "user.name=A", "-c", "user.email=a@example.org"]
+        subprocess.run(["git", *who, *words], cwd=self.top, stdout=subprocess.DEVNULL, check=True)
+
+    def tried(self, *words, status=0):
+        """The calls of rt, sorted, and the lines that are printed."""
+        lines = self.run_with(*words, status=status)
+        calls = sorted(self.read("calls").splitlines()) if os.path.exists(f"{self.top}/calls") else []
+        return calls, lines
+
+    def test_a_crate_that_changed_is_tried_with_those_above(self):
+        self.write("crates/low/src/lib.rt", f"{TEST}// more\n")
+        calls, lines = self.tried()
+        self.assertEqual(calls, [f"{name} try --test --seconds 900" for name in ("high", "low")])
+        self.assertEqual(lines[-1], "2 passed, 0 failed")
+
+    def test_what_is_committed_counts_since_the_commit(self):
+        self.git("checkout", "--quiet", "-b", "mine")
+        self.write("crates/high/src/more.rt", "")
+        self.git("add", "-A")
+        self.git("commit", "--quiet", "--message", "b")
+        self.assertEqual(self.tried()[0], ["high try --test --seconds 900"], "since the main branch")
+        os.remove(f"{self.top}/calls")
+        self.assertEqual(self.tried("HEAD"), ([], [self.tried("HEAD")[1][0], "0 passed, 0 failed"]))
+
+    def test_definitions_proofs_and_edits_change_no_test(self):
+        for name in ("specs/a.antt", "proofs/a.antt", "must-fail-more/a.edit"):
+            self.write(f"crates/low/{name}", "")
+        self.assertEqual(self.tried()[0], [])
+        self.write("crates/high/src/new.rt", "")
+        self.assertEqual(self.tried()[0], ["high try --test --seconds 900"], "a file that git doesn't have yet")
+
+    def test_a_program_has_its_stored_run(self):
+        self.write("crates/beside/src/lib.rt", "// no test any more\n")
+        calls, lines = self.tried()
+        self.assertEqual((calls, lines[-1]), (["program try --seconds 900"], "1 passed, 0 failed"))
+        self.assertEqual(self.read("crates/program/given"), "in\n")
+        self.write("crates/program/args", "--one\ntwo words\n")
+        self.write("crates/program/data/b", "")
+        self.write("crates/program/data/a", "")
+        os.remove(f"{self.top}/calls")
+        self.assertEqual(
+            self.tried()[0], ["program try --seconds 900 --data a=data/a --data b=data/b -- --one two words"]
+        )
+        self.write("crates/program/says", "another\n")
+        lines = self.tried(status=1)[1]
+        self.assertEqual((lines[-1], "another" in lines), ("0 passed, 1 failed", True))
+
+    def test_each_crate_is_tried_if_asked(self):
+        calls, lines = self.tried("--crates")
+        self.assertEqual(
+            calls,
+            [f"{name} try --test --seconds 900" for name in ("beside", "high", "low")] + ["program try --seconds 900"],
+        )
+        self.assertEqual(lines[-1], "4 passed, 0 failed")
+
+    def test_all_is_what_needs_no_proof(self):
+        with mock.patch.object(os, "execv", side_effect=SystemExit) as called:
+            self.assertRaises(SystemExit, unproved.main, ["--all", "--install"])
+        called.assert_called_once_with(f"{self.top}/.ci/all-unproved", ["all-unproved", "--install"])
+
+    def test_a_test_that_fails_is_told(self):
+        self.write("crates/low/fails", "")
+        self.write("crates/low/src/lib.rt", f"{TEST}// more\n")
+        lines = self.tried(status=1)[1]
+        self.assertEqual((lines[-1], "a test fails" in lines), ("1 passed, 1 failed", True))
+        self.assertTrue([line for line in lines if line.startswith("unproved: low: FAILED, ")], lines)
+
+    def test_other_words_are_refused(self):
+        self.assertEqual(self.said("no-such-commit", status=2), "unproved: no-such-commit is no commit\n")
+        for words in (["main", "main"], ["--help"], ["--crates", "main"]):
+            self.assertIn(".ci/unproved [COMMIT | ", self.said(*words, status=2))
+
+
+if __name__ == "__main__":
+    main()

@@ -1,0 +1,3 @@
+mod TableLaws
+mod RunLaws
+mod FaultLaws

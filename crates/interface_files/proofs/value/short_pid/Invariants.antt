@@ -1,0 +1,10 @@
+use Rattle.std.proofs.Common.{◌≡◌, take}
+use Rattle.std.specs.Str.Parse.{AllDigits, digits_value}
+use Rattle.interface_files.proofs.value.short_pid.Given as goal
+
+-- the value of the digits so far
+abbrev pub invariant-loop-byte : goal.invariant-loop-byte
+invariant-loop-byte l = record {
+  digits : AllDigits 10 (take l.byte-index l.text);
+  value : l.number ≡ digits_value 10 (take l.byte-index l.text);
+}

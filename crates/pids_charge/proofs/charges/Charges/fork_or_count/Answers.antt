@@ -1,0 +1,162 @@
+use Rattle.std.proofs.Common.{◌≡◌, ◌%◌, Some, None, arith, sym, ap, ◌∙◌, subst, option_map, ◌+◌, take}
+use Rattle.std.proofs.lemmas.Result.{err_from_is_err_and}
+use Rattle.std.specs.Ordering.{nat_cmp}
+use Rattle.std.specs.BTreeMap.{insert_entry}
+use Rattle.flat_model.specs.Path.{Path}
+use Rattle.flat_model.specs.Step.{at_each, count_up, home_of, peaks_upward, refusal}
+use Rattle.flat_model.specs.Command.{Fork, OverPidsMax}
+use Rattle.flat_model.proofs.PathLaws.{take_above}
+use Rattle.group_tree.specs.Flat.{group_of}
+use Rattle.flat_model.specs.State.{State}
+use Rattle.pids_charge.specs.Answers.{refusal_of_fault}
+use Rattle.pids_charge.specs.Recount.{IsPlaced, state_of}
+use Rattle.pids_charge.proofs.FlatGroups.{group-at, process-is}
+use Rattle.pids_charge.proofs.FlatTotals.{flat-counts, raised, same_slots, up_each}
+use Rattle.pids_charge.proofs.Changes.{charges_stay, slots_stay}
+use Rattle.pids_charge.proofs.MeterContents.{held_small, found_placed, same_meter}
+use Rattle.pids_charge.proofs.ForkOutcomes.{home_at, fork_asks, not_there, made_recounted, made_state}
+use Rattle.pids_charge.proofs.PeakRises.{noted, noted_of_row}
+use Rattle.pids_charge.specs.declared.notes.FullGroup.{FullGroup}
+use Rattle.pids_charge.proofs.charges.Charges.fork_or_count.Goals as goal
+
+pub returns-in_err-from-clause-first : goal.returns-in_err-from-clause-first
+returns-in_err-from-clause-first g c =
+    let p = err_from_is_err_and c.from_residual.result c.from_residual.ensures.1 in
+    rw (p.1, p.2) (λ _.
+    (subst (λ (s : State). refusal g.M.Meter.SLOTS s (Fork c.args.parent c.args.child) ≡ refusal_of_fault (home_of c.args.self.now c.args.parent) c.in_err-from.field-0.0) c.self.view_is
+    (c.in_err-from.ensures.first g.M.Meter.SLOTS c.self.inside.tree (home_of c.args.self.now c.args.parent))))
+
+pub nearest_full-requires-clause-home : goal.nearest_full-requires-clause-home
+nearest_full-requires-clause-home g c = (found_placed _ _ _ _ _ c.self.invariant.recounted c.args.parent c.in_ok-from.from.now c.in_ok-from.ensures.parent).home
+
+pub nearest_full-requires-clause-slot : goal.nearest_full-requires-clause-slot
+nearest_full-requires-clause-slot g c = (found_placed _ _ _ _ _ c.self.invariant.recounted c.args.parent c.in_ok-from.from.now c.in_ok-from.ensures.parent).slot
+
+pub note_up-notes-requires-clause-home : goal.note_up-notes-requires-clause-home
+note_up-notes-requires-clause-home g c = (found_placed _ _ _ _ _ c.self.invariant.recounted c.args.parent c.in_ok-from.from.now c.in_ok-from.ensures.parent).home
+
+pub note_up-notes-requires-clause-slot : goal.note_up-notes-requires-clause-slot
+note_up-notes-requires-clause-slot g c = (found_placed _ _ _ _ _ c.self.invariant.recounted c.args.parent c.in_ok-from.from.now c.in_ok-from.ensures.parent).slot
+
+pub change_totals-requires-clause-group : goal.change_totals-requires-clause-group
+change_totals-requires-clause-group g c =
+    let from = c.in_ok-from.from.now in
+    let placed = found_placed _ _ _ _ _ c.self.invariant.recounted c.args.parent from c.in_ok-from.ensures.parent in
+    c.known.ensures.prefixes from.home (take c.in-Some.full.names from.home) placed.home (take_above c.in-Some.full.names from.home)
+
+pub invariant_of-self-in-Some : goal.invariant_of-self-in-Some
+invariant_of-self-in-Some g c =
+    let tree = c.self.inside.tree in
+    let es = c.self.inside.processes in
+    let a : Path = take c.in-Some.full.names c.in_ok-from.from.now.home in
+    let content = g.M.Meter.content c.nearest_full.new.meter in
+    let held = g.M.Meter.held c.nearest_full.new.meter in
+    let counts = raised tree c.change_totals.new.tree a
+    (λ q x e. c.requires c.if-not-can_count.false q (group_of x) (group-at c.args.self.now tree es c.self.view_is q x e)) c.change_totals.ensures in
+    let slots = same_slots (λ n. n + 1) tree c.change_totals.new.tree a counts c.known-in-Some.ensures.closed in
+    record {
+      has_slots = slots_stay tree c.change_totals.new.tree slots g.M.Meter.SLOTS c.self.inside.free.items c.self.invariant.has_slots;
+      room = c.self.invariant.room;
+      recounted = charges_stay tree c.change_totals.new.tree slots g.M.Meter.LEAVES es content held
+          (same_meter _ _ _ _ _ c.self.invariant.recounted content held c.nearest_full.ensures.content c.nearest_full.ensures.held);
+    }
+
+pub returns-in-Some-clause-forked : goal.returns-in-Some-clause-forked
+returns-in-Some-clause-forked g c =
+    let tree = c.self.inside.tree in
+    let es = c.self.inside.processes in
+    let from = c.in_ok-from.from.now in
+    let names = c.in-Some.full.names in
+    let a : Path = take names from.home in
+    let s : State = state_of tree es in
+    let at_home = home_at _ _ _ _ _ c.self.invariant.recounted c.args.self.now c.self.view_is c.args.parent from c.in_ok-from.ensures.parent in
+    let path_is : c.in_ok-path.path ≡ take names (home_of c.args.self.now c.args.parent) = c.in_ok-path.ensures.group ∙ ap (take names) (sym at_home) in
+    let new = process-is c.args.self.now tree es c.self.view_is c.self.invariant.recounted.ordered c.args.child ∙ c.in_ok-from.ensures.child in
+    let counts = raised tree c.change_totals.new.tree a
+    (λ q x e. c.requires c.if-not-can_count.false q (group_of x) (group-at c.args.self.now tree es c.self.view_is q x e)) c.change_totals.ensures in (
+      fork_asks g.M.Meter.SLOTS g.M.Meter.LEAVES tree es (g.M.Meter.content c.self.inside.meter) (g.M.Meter.held c.self.inside.meter)
+          c.self.invariant.recounted c.self.inside.free.items c.self.invariant.has_slots c.known.ensures.prefixes
+          c.args.self.now c.self.view_is c.args.parent from c.in_ok-from.ensures.parent c.args.child new (Some names)
+          (ap (option_map (λ (full : FullGroup). full.names)) (sym c.in-Some.is) ∙ c.nearest_full.ensures.answer)
+          ∙ ap (λ (q : Path). Some (OverPidsMax q)) (sym path_is),
+      flat-counts (λ n. n + 1) tree c.change_totals.new.tree a counts count_up up_each s.home
+          ∙ ap (λ (q : Path). at_each (count_up (take names q)) s) (sym at_home)
+          ∙ ap (λ (t : State). at_each (count_up (take names (home_of c.args.self.now c.args.parent))) t) c.self.view_is
+          ∙ ap (λ (q : Path). at_each (count_up q) c.args.self.now) (sym path_is),
+      c.in_ok-shared.ensures,
+    )
+
+pub charge_noted-requires-clause-group : goal.charge_noted-requires-clause-group
+charge_noted-requires-clause-group g c =
+    let placed = found_placed _ _ _ _ _ c.self.invariant.recounted c.args.parent c.in_ok-from.from.now c.in_ok-from.ensures.parent in
+    record { path = c.in_ok-from.from.now.home; there = placed.home; here = placed.slot }
+
+pub charge_noted-requires-clause-noted : goal.charge_noted-requires-clause-noted
+charge_noted-requires-clause-noted g c =
+    let from = c.in_ok-from.from.now in
+    let placed = found_placed _ _ _ _ _ c.self.invariant.recounted c.args.parent from c.in_ok-from.ensures.parent in
+    noted_of_row c.self.inside.tree c.known.ensures.apart from.home placed.home from.slot placed.slot c.note_up-notes.result c.note_up-notes.ensures
+
+pub charge_noted-requires-clause-room : goal.charge_noted-requires-clause-room
+charge_noted-requires-clause-room g c =
+    let from = c.in_ok-from.from.now in
+    let placed = found_placed _ _ _ _ _ c.self.invariant.recounted c.args.parent from c.in_ok-from.ensures.parent in
+    omega (
+      arith,
+      c.note_up-notes.ensures.slots.many,
+      held_small _ _ _ _ _ c.self.invariant.recounted c.self.invariant.has_slots.shallow,
+      c.self.invariant.has_slots.shallow from.home placed.home,
+      c.nearest_full.ensures.held,
+    )
+
+pub invariant_of-self-2 : goal.invariant_of-self-2
+invariant_of-self-2 g c =
+    let tree = c.self.inside.tree in
+    let es = c.self.inside.processes in
+    let from = c.in_ok-from.from.now in
+    let leaf = c.args.who % c.LEAVES.result in
+    let content = g.M.Meter.content c.nearest_full.new.meter in
+    let held = g.M.Meter.held c.nearest_full.new.meter in
+    let placed : IsPlaced g.M.Meter.LEAVES tree from = found_placed _ _ _ _ _ c.self.invariant.recounted c.args.parent from c.in_ok-from.ensures.parent in
+    let new = process-is c.args.self.now tree es c.self.view_is c.self.invariant.recounted.ordered c.args.child ∙ c.in_ok-from.ensures.child in
+    record {
+      has_slots = slots_stay tree c.charge_noted.new.tree c.charge_noted.ensures.slots g.M.Meter.SLOTS c.self.inside.free.items c.self.invariant.has_slots;
+      room = c.self.invariant.room;
+      recounted = made_recounted g.M.Meter.SLOTS g.M.Meter.LEAVES tree c.charge_noted.new.tree es c.admit.new.processes content
+          (g.M.Meter.content c.charge_noted.new.meter) held (g.M.Meter.held c.charge_noted.new.meter)
+          (same_meter _ _ _ _ _ c.self.invariant.recounted content held c.nearest_full.ensures.content c.nearest_full.ensures.held)
+          c.self.inside.free.items c.self.invariant.has_slots c.charge_noted.ensures.slots
+          c.args.child leaf from placed (not_there c.args.self.now tree es c.self.view_is c.self.invariant.recounted.ordered c.args.child new)
+          c.admit.ensures.pid (c.in_ok-peaks.ensures.entries ∙ ap (insert_entry nat_cmp es c.args.child) c.in_ok-process.ensures) c.admit.ensures.ordered
+          (omega (arith, c.LEAVES.ensures, g.met.M.Meter.leaves_positive))
+          (c.charge_noted.ensures.content from.home placed.home placed.slot) (omega (arith, c.charge_noted.ensures.held, c.note_up-notes.ensures.slots.many));
+    }
+
+pub returns-clause-forked : goal.returns-clause-forked
+returns-clause-forked g c =
+    let tree = c.self.inside.tree in
+    let es = c.self.inside.processes in
+    let from = c.in_ok-from.from.now in
+    let leaf = c.args.who % c.LEAVES.result in
+    let content = g.M.Meter.content c.nearest_full.new.meter in
+    let held = g.M.Meter.held c.nearest_full.new.meter in
+    let placed : IsPlaced g.M.Meter.LEAVES tree from = found_placed _ _ _ _ _ c.self.invariant.recounted c.args.parent from c.in_ok-from.ensures.parent in
+    let new = process-is c.args.self.now tree es c.self.view_is c.self.invariant.recounted.ordered c.args.child ∙ c.in_ok-from.ensures.child in (
+      fork_asks g.M.Meter.SLOTS g.M.Meter.LEAVES tree es (g.M.Meter.content c.self.inside.meter) (g.M.Meter.held c.self.inside.meter)
+          c.self.invariant.recounted c.self.inside.free.items c.self.invariant.has_slots c.known.ensures.prefixes
+          c.args.self.now c.self.view_is c.args.parent from c.in_ok-from.ensures.parent c.args.child new None (ap (option_map (λ (full : FullGroup). full.names)) (sym c.in_default.is) ∙ c.nearest_full.ensures.answer),
+      made_state g.M.Meter.SLOTS g.M.Meter.LEAVES tree c.charge_noted.new.tree es c.admit.new.processes content
+          (g.M.Meter.content c.charge_noted.new.meter) held (g.M.Meter.held c.charge_noted.new.meter)
+          (same_meter _ _ _ _ _ c.self.invariant.recounted content held c.nearest_full.ensures.content c.nearest_full.ensures.held)
+          c.self.inside.free.items c.self.invariant.has_slots c.charge_noted.ensures.slots
+          c.args.child leaf from placed (not_there c.args.self.now tree es c.self.view_is c.self.invariant.recounted.ordered c.args.child new)
+          c.admit.ensures.pid (c.in_ok-peaks.ensures.entries ∙ ap (insert_entry nat_cmp es c.args.child) c.in_ok-process.ensures) c.admit.ensures.ordered
+          (omega (arith, c.LEAVES.ensures, g.met.M.Meter.leaves_positive))
+          (c.charge_noted.ensures.content from.home placed.home placed.slot) (omega (arith, c.charge_noted.ensures.held, c.note_up-notes.ensures.slots.many))
+          c.known.ensures.prefixes c.args.self.now c.self.view_is c.args.parent (home_at _ _ _ _ _ c.self.invariant.recounted c.args.self.now c.self.view_is c.args.parent from c.in_ok-from.ensures.parent)
+          (c.charge_noted.ensures.raised from.home placed.home placed.slot),
+      c.in_ok-peaks.ensures.peaks ∙ c.peaks.ensures.same
+          ∙ noted c.self.inside.tree c.self.inside.processes c.args.self.now c.self.view_is c.in_ok-from.from.now.home
+          c.note_up-notes.result.peaks c.note_up-notes.ensures.peaks
+          ∙ ap (peaks_upward c.args.self.now) (sym (home_at _ _ _ _ _ c.self.invariant.recounted c.args.self.now c.self.view_is c.args.parent from c.in_ok-from.ensures.parent)),
+    )

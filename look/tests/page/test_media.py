@@ -1,0 +1,176 @@
+"""The page as it is for other eyes, on other screens and on paper: forced colours, low and narrow screens, large letters, print."""
+
+import base64
+import re
+import zlib
+
+import pytest
+from demo import demo
+from support import pods_trace
+from webdriver import Browser, is_there
+
+pytestmark = pytest.mark.skipif(not is_there(), reason="chromium and chromedriver are missing")
+
+
+@pytest.fixture
+def media(browser, pages):
+    """The demo's page with features of a medium, and of a size."""
+
+    def show(features=(), size=(0, 900), kind="", link="#line=32"):
+        browser.cdp(
+            "Emulation.setEmulatedMedia",
+            media=kind,
+            features=[{"name": name, "value": value} for name, value in features],
+        )
+        browser.size(*size)
+        browser.open("about:blank")
+        browser.open(pages("demo", demo()) + link)
+        return browser
+
+    yield show
+    browser.cdp("Emulation.setEmulatedMedia", media="", features=[])
+    browser.size()
+    assert browser.complaints() == []
+
+
+def colours(b, *selectors):
+    """Of the first element of each: its background."""
+    return [
+        b.run("return getComputedStyle(document.querySelector(arguments[0])).backgroundColor", one) for one in selectors
+    ]
+
+
+# ---- forced colours
+
+
+@pytest.mark.parametrize("scheme", ["light", "dark"])
+def test_bars_are_visible_in_forced_colours(media, scheme):
+    b = media([("forced-colors", "active"), ("prefers-color-scheme", scheme)])
+    assert b.run("return matchMedia('(forced-colors: active)').matches")
+    back, bar, peak, key = colours(b, "body", "#tree .bar > b", "#tree .bar > i", ".head .peak-key")
+    assert back not in (bar, peak) and bar != peak and key == peak
+    # the colours above are those of the style, which the browser replaces unless it is told not to
+    kept = "return getComputedStyle(document.querySelector(arguments[0]), arguments[1]).forcedColorAdjust"
+    for selector, part in (
+        ("#tree .bar > b", None),
+        ("#tree .bar > i", None),
+        (".head .peak-key", None),
+        (".key", "::before"),
+    ):
+        assert b.run(kept, selector, part) == "none", selector
+    assert b.run("return document.querySelector('#tree .bar > b').getBoundingClientRect().width") > 10
+    outlines = "return [...document.querySelectorAll(arguments[0])].map((row) => getComputedStyle(row).outlineStyle)"
+    assert b.run(outlines, "#list .row.now, #tree .row.chosen") == ["solid", "solid"]
+    assert "solid" not in b.run(outlines, "#list .row:not(.now), #tree .row:not(.chosen)")
+    b.click("#before")
+    pressed, plain = colours(b, "#before", "#refusals")
+    assert pressed not in (plain, back)
+    borders = "return [...document.querySelectorAll('#tree .row')].map((row) => [row.classList.contains('changed'), getComputedStyle(row).borderLeftStyle])"
+    assert {tuple(it) for it in b.run(borders)} == {(True, "double"), (False, "none")}
+
+
+# ---- low and narrow screens
+
+COVERED = """
+const nav = document.querySelector("nav").getBoundingClientRect(), height = Math.min(nav.bottom, innerHeight) - Math.max(nav.top, 0);
+return Math.max(0, height) / innerHeight
+"""
+
+
+@pytest.mark.parametrize("size", [(320, 256), (640, 400), (1280, 256)])
+def test_on_a_low_screen_the_controls_do_not_cover_what_they_control(media, size):
+    b = media(size=size)
+    b.run("document.getElementById('groups').scrollIntoView()")
+    assert b.run("return document.getElementById('groups').getBoundingClientRect().top") < 5
+    assert b.run(COVERED) == 0
+    assert b.run("return document.documentElement.scrollWidth") <= size[0]
+    for part in ("#answer", "#tree", "#group", "#plots svg"):
+        b.run("document.querySelector(arguments[0]).scrollIntoView({ block: 'start' })", part)
+        script = """const it = document.querySelector(arguments[0]), box = it.getBoundingClientRect();
+            return [box.height, it.contains(document.elementFromPoint(box.left + 60, box.top + 4))]"""
+        height, is_seen = b.run(script, part)
+        assert height > 60 and is_seen, part
+
+
+@pytest.mark.parametrize("size", [(400, 900), (1000, 900)])
+def test_on_a_high_screen_the_controls_stay(media, size):
+    b = media(size=size)
+    b.run("document.getElementById('groups').scrollIntoView()")
+    assert 0 < b.run(COVERED) < 0.25
+
+
+# ---- large letters
+
+OVERLAPS = """
+const rows = [...document.querySelectorAll("#list .row, #tree .row")].map((row) => [row.parentElement.parentElement.id, row.getBoundingClientRect()]);
+return rows.some(([id, box], at) => at > 0 && rows[at - 1][0] === id && Math.abs(rows[at - 1][1].bottom - box.top) > 0.5)
+"""
+IS_CUT = """
+return [...document.querySelectorAll("#list .row, #tree .row")].some((row) => [...row.children].some((it) => it.scrollHeight > row.clientHeight + 1))
+"""
+
+
+@pytest.mark.parametrize("letters, tall", [(16, 22), (20, 27.5), (32, 44)])
+def test_letters_of_another_size(pages, letters, tall):
+    """That a person has set in the browser: rows are as high as their letters need, and none covers the next one."""
+    b = Browser(letters=letters)
+    try:
+        b.open(pages("pods", pods_trace()))
+        assert b.run("return getComputedStyle(document.body).fontSize") == f"{letters * 0.875:g}px"
+        assert b.run("return document.querySelector('#tree .row').getBoundingClientRect().height") == tall
+        assert not b.run(OVERLAPS) and not b.run(IS_CUT)
+        assert b.run("return document.documentElement.scrollWidth") <= 1400
+        b.run("document.getElementById('tree').scrollTop = 1e5; document.getElementById('list').scrollTop = 0")
+        assert b.until(lambda: b.run("return document.querySelector('#list .row').dataset.at") == "0")
+        ends = """const box = document.getElementById("tree").getBoundingClientRect();
+            return [...document.querySelectorAll("#tree .row")].at(-1).getBoundingClientRect().bottom - box.bottom"""
+        assert b.until(lambda: abs(b.run(ends)) < 1), "the last row is the end of what can be scrolled"
+        assert b.complaints() == []
+    finally:
+        b.close()
+
+
+# ---- on paper
+
+
+def printed(b):
+    """The texts of a print's drawing operators, and its pages."""
+    paper = base64.b64decode(b.cdp("Page.printToPDF", printBackground=False, preferCSSPageSize=True)["data"])
+    return paper, len(re.findall(rb"/Type\s*/Page\b", paper))
+
+
+def fills(paper):
+    """The colours that are filled on its pages, as three hundredths."""
+    found = set()
+    for stream in re.findall(rb"stream\r?\n(.*?)endstream", paper, re.S):
+        try:
+            text = zlib.decompress(stream)
+        except zlib.error:
+            continue
+        for rgb in re.findall(rb"([\d.]+) ([\d.]+) ([\d.]+) rg\b", text):
+            found.add(tuple(round(float(it) * 255) for it in rgb))
+    return found
+
+
+@pytest.mark.parametrize("scheme", ["light", "dark"])
+def test_paper_has_bars_and_no_controls(media, scheme):
+    """Also where a browser leaves out backgrounds, and from a dark page."""
+    b = media([("prefers-color-scheme", scheme)])
+    paper, pages = printed(b)
+    assert 1 <= pages <= 3
+    assert {(0x2F, 0x6F, 0xC4), (0xC0, 0x39, 0x2B)} <= fills(paper), "the bars of a page on a light ground"
+    assert (0x14, 0x17, 0x1A) not in fills(paper)
+    b = media([("prefers-color-scheme", scheme)], kind="print")
+    hidden = "return arguments[0].filter((one) => [...document.querySelectorAll(one)].some((it) => it.getClientRects().length > 0))"
+    assert b.run(hidden, ["nav", "footer", "#search", "#before", "#refusals", "figcaption button", "#name-width"]) == []
+    shown = "return arguments[0].filter((one) => ![...document.querySelectorAll(one)].some((it) => it.getClientRects().length > 0))"
+    assert (
+        b.run(shown, ["h1", "#summary", "#list .row.now", "#answer", "#tree .row.chosen", "#group table", "#plots svg"])
+        == []
+    )
+    assert b.run("return getComputedStyle(document.body).color") == "rgb(22, 25, 29)"
+    exact = "return ['#tree .bar > b', '#plots svg'].map((one) => getComputedStyle(document.querySelector(one)).printColorAdjust)"
+    assert b.run(exact) == ["exact", "exact"], "an economical printer leaves out no bar"
+    assert not b.run(OVERLAPS)
+    whole = "return ['list', 'tree', 'answer', 'plots'].filter((id) => { const it = document.getElementById(id); return it.scrollHeight > it.clientHeight + 1; })"
+    assert b.run(whole) == [], "nothing is cut"

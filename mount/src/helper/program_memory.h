@@ -1,0 +1,14 @@
+/* The memory of a program under the supervisor. */
+#ifndef PROGRAM_MEMORY_H
+#define PROGRAM_MEMORY_H
+
+#include <stdbool.h>
+#include <stddef.h>
+#include <sys/types.h>
+
+bool program_memory_read(pid_t thread, unsigned long at, void *out, size_t size);
+bool program_memory_write(pid_t thread, unsigned long at, const void *bytes, size_t size);
+/* A text that ends with a zero byte. */
+bool program_memory_text(pid_t thread, unsigned long at, char *out, size_t size);
+
+#endif

@@ -1,0 +1,3 @@
+#include "processes/process_table.h"
+
+struct process process_table[PIDS];

@@ -1,0 +1,112 @@
+#include "run/inherited_files.h"
+#include "common/cleanup.h"
+#include "common/group_paths.h"
+#include "common/message.h"
+#include <fcntl.h>
+#include <limits.h>
+#include <linux/magic.h>
+#include <string.h>
+#include <sys/stat.h>
+#include <sys/vfs.h>
+
+static bool is_in_groups;
+
+/* The type of the file system says it, wherever it is mounted. Machines with cgroup v1 have its hierarchies in a tmpfs, whose path
+   says it; the run's mount covers that path. */
+static bool is_of_groups(int fd, const char *link)
+{
+	char path[PATH_MAX];
+	struct statfs st;
+	if (fstatfs(fd, &st) == 0 && (st.f_type == CGROUP2_SUPER_MAGIC || st.f_type == CGROUP_SUPER_MAGIC))
+		return true;
+	ssize_t n = readlink(link, path, sizeof path - 1);
+	path[n > 0 ? n : 0] = 0;
+	return n > 0 && is_at_or_below(path, cgroup_mount);
+}
+
+/* The program does not get it. Whoever redirected a standard stream expects an effect: then there is no run. */
+static bool let_go(int fd, const char *why)
+{
+	static const char *const streams[] = { "input", "output", "error" };
+	if (fd <= STDERR_FILENO) {
+		say("standard %s is %s", streams[fd], why);
+		return false;
+	}
+	close(fd);
+	return true;
+}
+
+bool inherited_files_let_go(void)
+{
+	char link[40];
+	struct dirent *entry;
+	/* not ".", which needs the permission to search it */
+	cleanup_fd int folder = open("/proc/self/cwd", O_PATH | O_CLOEXEC);
+	cleanup_directory DIR *all = opendir("/proc/self/fd");
+	if (folder < 0 || !all) {
+		say("/proc cannot be read: %s", strerror(errno));
+		return false; /* cppcheck-suppress resourceLeak ; the cleanup attribute closes them */
+	}
+	is_in_groups = is_of_groups(folder, "/proc/self/cwd");
+	while ((entry = readdir(all))) {
+		int fd = entry->d_name[0] == '.' ? -1 : (int)strtol(entry->d_name, NULL, 10);
+		snprintf(link, sizeof link, "/proc/self/fd/%d", fd);
+		if (fd < 0 || fd == folder || fd == dirfd(all) || !is_of_groups(fd, link))
+			continue;
+		if (!let_go(fd, "in the machine's own cgroups, which a run does not have"))
+			return false;
+	}
+	return true;
+}
+
+static bool is_same_file(int one, int other)
+{
+	struct stat a, b;
+	return fstat(one, &a) == 0 && fstat(other, &b) == 0 && a.st_dev == b.st_dev && a.st_ino == b.st_ino;
+}
+
+/* A directory that was opened outside leads to the machine's groups, up to the root and down again, since its mounts are those of
+   the caller's namespace. Opened again by its path it leads to what the program sees. */
+static bool open_again(int fd)
+{
+	char link[40], path[PATH_MAX];
+	snprintf(link, sizeof link, "/proc/self/fd/%d", fd);
+	ssize_t n = readlink(link, path, sizeof path - 1);
+	path[n > 0 ? n : 0] = 0;
+	cleanup_fd int again = open(path, fcntl(fd, F_GETFL) | O_DIRECTORY | O_NOFOLLOW | O_CLOEXEC);
+	if (again < 0 || !is_same_file(fd, again))
+		return false;
+	lseek(again, lseek(fd, 0, SEEK_CUR), SEEK_SET); /* what was opened as a path has no place */
+	return dup2(again, fd) == fd;
+}
+
+/* Those of makhloeum itself are closed as the program begins. */
+static bool is_inherited_directory(int fd)
+{
+	struct stat st;
+	return fd >= 0 && (fcntl(fd, F_GETFD) & FD_CLOEXEC) == 0 && fstat(fd, &st) == 0 && S_ISDIR(st.st_mode);
+}
+
+static bool open_all_again(void)
+{
+	struct dirent *entry;
+	cleanup_directory DIR *all = opendir("/proc/self/fd");
+	while (all && (entry = readdir(all))) {
+		int fd = entry->d_name[0] == '.' ? -1 : (int)strtol(entry->d_name, NULL, 10);
+		if (is_inherited_directory(fd) && !open_again(fd) && !let_go(fd, "a directory that is not found by its path"))
+			return false;
+	}
+	if (!all)
+		say("/proc cannot be read: %s", strerror(errno));
+	return all != NULL;
+}
+
+bool inherited_files_enter(void)
+{
+	if (!open_all_again())
+		return false;
+	if (!is_in_groups || chdir(cgroup_mount) == 0)
+		return true;
+	say("the hierarchy cannot be entered: %s", strerror(errno));
+	return false;
+}

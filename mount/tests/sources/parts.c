@@ -1,0 +1,230 @@
+/* Parts of the mount that can be called alone: the texts of /proc (proc_status.c), reservations (reservations.c), what the supervisor
+   tells the server (supervisor_events.c), descriptors that are passed (descriptor_passing.c), and arrays (growing_array.c). */
+#include "channels/descriptor_passing.h"
+#include "channels/supervisor_events.h"
+#include "common/growing_array.h"
+#include "common/proc_status.h"
+#include "processes/reservations.h"
+#include <errno.h>
+#include <fcntl.h>
+#include <stdio.h>
+#include <stdlib.h>
+#include <string.h>
+#include <sys/socket.h>
+#include <sys/stat.h>
+#include <unistd.h>
+
+static int steps, wrong;
+
+static void is(const char *what, bool right)
+{
+	steps++;
+	wrong += !right;
+	if (!right)
+		printf("  %-58s FAILED\n", what);
+}
+
+/* ---------------------------------------------------------------- the texts of a process */
+
+enum { PROCESS = 7, LONG = 5000 };
+
+/* A line that does not fit into one read comes before the others, and the last one has no end. */
+static void put_texts(void)
+{
+	char home[256];
+	snprintf(home, sizeof home, "%s/parts-XXXXXX", getenv("TMPDIR") ? getenv("TMPDIR") : "/tmp");
+	if (!mkdtemp(home) || chdir(home) || mkdir("7", 0755))
+		exit(2);
+	FILE *status = fopen("7/status", "w"), *other = fopen("7/stat", "w");
+	if (!status || !other)
+		exit(2);
+	fprintf(status, "Name:\tx\nGroups:\t%0*d\n", LONG, 5);
+	fputs("One:\t7\nBlank:\t\nNothing:\nUid:\t11\t22\t33\nNSpid:\t4711\t8\nOne:\t9\nPart:\t6", status);
+	fputs("7 (x) S 1", other);
+	if (fclose(status) || fclose(other))
+		exit(2);
+}
+
+static bool says(const char *key, const char *wanted)
+{
+	char value[LONG + 2] = "unset";
+	bool found = proc_status_line(PROCESS, key, value, sizeof value);
+	return wanted ? found && strcmp(value, wanted) == 0 : !found;
+}
+
+static void texts(void)
+{
+	char value[4];
+	put_texts();
+	is("the first line", says("Name:", "\tx"));
+	is("a value of one digit, of the first line with this key", says("One:", "\t7"));
+	is("a value that is a blank", says("Blank:", "\t"));
+	is("an empty value", says("Nothing:", ""));
+	is("several numbers", says("Uid:", "\t11\t22\t33"));
+	is("the end of another key", says("id:", NULL));
+	is("a key in a value", says("7", NULL));
+	is("a key of nobody", says("Nobody:", NULL));
+	is("a line without an end", says("Part:", NULL));
+	is("a value that is cut", proc_status_line(PROCESS, "Uid:", value, sizeof value) && strcmp(value, "\t11") == 0);
+	is("a process of nobody", !proc_status_line(PROCESS + 1, "Name:", value, sizeof value));
+	is("the number of a line", proc_status_number(PROCESS, "One:") == 7);
+	is("the last number of a line", proc_status_number(PROCESS, "NSpid:") == 8);
+	is("a line of nobody has none", proc_status_number(PROCESS, "Nobody:") == -1);
+	is("nor has an empty line", proc_status_number(PROCESS, "Nothing:") == -1);
+
+	char text[16];
+	is("a text", proc_status_text("7/stat", text, sizeof text) == 9 && strcmp(text, "7 (x) S 1") == 0);
+	is("a text as long as there is room", proc_status_text("7/stat", text, 10) == 9 && strcmp(text, "7 (x) S 1") == 0);
+	is("the beginning of a text", proc_status_text("7/stat", text, 5) == 4 && strcmp(text, "7 (x") == 0);
+	is("no text", proc_status_text("8/stat", text, sizeof text) == -ENOENT && text[0] == 0);
+	is("a directory", proc_status_text("7", text, sizeof text) == -EISDIR);
+	if (unlink("7/stat") || unlink("7/status") || rmdir("7"))
+		exit(2);
+}
+
+/* ---------------------------------------------------------------- reservations */
+
+static void reservations(void)
+{
+	static const struct reservation like = { .parent = 5, .is_thread = true };
+	static const char *const groups[] = { "/a", "/a/b", "/ab", "/a/b" };
+	unsigned numbers[4];
+	is("none at first", reservations_count() == 0 && reservations_below("/") == 0);
+	for (int i = 0; i < 4; i++)
+		is("one more", reservations_add(&like, groups[i], &numbers[i]) == 0);
+	is("four", reservations_count() == 4);
+	is("at and below a group",
+		reservations_below("/a") == 3 && reservations_below("/a/b") == 2 && reservations_below("/") == 4);
+	const struct reservation *second = reservations_find(numbers[1]);
+	is("what it is for", second && second->parent == 5 && second->is_thread && strcmp(second->group, "/a/b") == 0);
+	reservations_drop(numbers[1]);
+	is("one is dropped",
+		reservations_count() == 3 && reservations_below("/a/b") == 1 && !reservations_find(numbers[1]));
+	reservations_drop(numbers[1]);
+	reservations_drop(0);
+	is("one that is not there", reservations_count() == 3);
+	reservations_kill("/a/b");
+	bool killed[4];
+	for (int i = 0; i < 4; i++) {
+		const struct reservation *r = reservations_find(numbers[i]);
+		killed[i] = r && r->killed;
+	}
+	is("a kill reaches a group and those below it", !killed[0] && !killed[2] && killed[3]);
+	for (int i = 0; i < 4; i++)
+		reservations_drop(numbers[i]);
+	is("none in the end", reservations_count() == 0 && reservations_below("/") == 0);
+}
+
+/* ---------------------------------------------------------------- news */
+
+static bool hears(unsigned reservation, pid_t thread)
+{
+	unsigned of = 0;
+	pid_t who = 0;
+	return supervisor_events_take(&of, &who) && of == reservation && who == thread;
+}
+
+/* There is room for some, and each is heard once and in order, also after the places were used before. */
+static void news(void)
+{
+	unsigned of;
+	pid_t who;
+	is("memory for news", supervisor_events_begin());
+	is("none yet", !supervisor_events_take(&of, &who));
+	int told = 0, heard = 0, room = 0;
+	while (told < 100000 && supervisor_events_put((unsigned)told, told + 1))
+		told++;
+	room = told;
+	is("room for some, not for all", room > 1 && room < 100000);
+	is("the first", hears(0, 1));
+	for (heard = 1; told < 3 * room && supervisor_events_put((unsigned)told, told + 1); told++)
+		if (!hears((unsigned)heard, heard + 1))
+			break;
+		else
+			heard++;
+	is("one place for each that was heard", told == 3 * room && heard == 2 * room + 1);
+	while (heard < told && hears((unsigned)heard, heard + 1))
+		heard++;
+	is("all in order", heard == told);
+	is("then none", !supervisor_events_take(&of, &who));
+}
+
+/* ---------------------------------------------------------------- descriptors */
+
+static int lowest_free(void)
+{
+	int fd = dup(0);
+	close(fd);
+	return fd;
+}
+
+/* A message with these numbers of bytes and descriptors is not what was expected, and leaves no descriptor open. */
+static bool is_refused(const int ends[2], size_t bytes, size_t sent, size_t expected)
+{
+	char message[8] = "message", room[8];
+	int two[2] = { 0, 0 }, came[DESCRIPTORS_MAX], before = lowest_free();
+	bool is_sent = sent ? descriptor_passing_send(ends[1], message, bytes, two, sent)
+						: send(ends[1], message, bytes, 0) == (ssize_t)bytes;
+	return is_sent && !descriptor_passing_take(ends[0], room, sizeof room, came, expected, 0) &&
+		lowest_free() == before;
+}
+
+static void descriptors(void)
+{
+	int ends[2], came[DESCRIPTORS_MAX] = { -1, -1 };
+	char room[8] = "";
+	struct stat st, own;
+	if (socketpair(AF_UNIX, SOCK_SEQPACKET, 0, ends))
+		exit(2);
+	is("two are passed",
+		descriptor_passing_send(ends[1], "message", 8, (int[]){ ends[0], 0 }, 2) &&
+			descriptor_passing_take(ends[0], room, sizeof room, came, 2, 0) && strcmp(room, "message") == 0);
+	is("in their order", fstat(came[0], &st) == 0 && fstat(ends[0], &own) == 0 && st.st_ino == own.st_ino);
+	is("and are closed by an exec", fcntl(came[1], F_GETFD) == FD_CLOEXEC);
+	close(came[0]);
+	close(came[1]);
+	is("a message without one", is_refused(ends, 8, 0, 1));
+	is("one in place of two", is_refused(ends, 8, 1, 2));
+	is("two in place of one", is_refused(ends, 8, 2, 1));
+	is("a shorter message", is_refused(ends, 7, 1, 1));
+	errno = 0;
+	is("no message", !descriptor_passing_take(ends[0], room, sizeof room, came, 1, MSG_DONTWAIT) && errno == EAGAIN);
+	close(ends[1]);
+	is("nobody who sends", !descriptor_passing_take(ends[0], room, sizeof room, came, 1, 0));
+	is("nobody who takes", !descriptor_passing_send(ends[0], "message", 8, came, 1));
+	close(ends[0]);
+}
+
+/* ---------------------------------------------------------------- arrays */
+
+static void arrays(void)
+{
+	size_t room = 0;
+	int *all = NULL;
+	bool is_there = true, has_room = true, stays = true;
+	for (size_t count = 1; count <= LONG; count++) {
+		int *grown = growing_array_make_room(all, count, &room, sizeof *all);
+		is_there &= grown != NULL;
+		has_room &= room >= count;
+		if (!grown || room < count)
+			break;
+		all = grown;
+		all[count - 1] = (int)count;
+	}
+	for (size_t i = 0; is_there && has_room && i < LONG; i++)
+		stays &= all[i] == (int)i + 1;
+	is("an array grows one by one", is_there && has_room);
+	is("and keeps what it has", stays);
+	free(all);
+}
+
+int main(void)
+{
+	texts();
+	reservations();
+	news();
+	descriptors();
+	arrays();
+	printf("  %d steps, %d failed\n", steps, wrong);
+	return wrong != 0;
+}
