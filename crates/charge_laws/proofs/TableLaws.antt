@@ -1,4 +1,4 @@
--- Processes by slot, charges, and event totals.
+-- Processes by row, charges, and event totals.
 use Rattle.std.proofs.Common.{◌≡◌, ◌≢◌, ◌↔◌, ℕ, zero, suc, ◌+◌, ◌-◌, ◌<◌, ◌≤◌, ◌^◌, Bool, true, false, cond, ◌&&◌, eqb, List, [], ◌∷◌, ◌++◌, map, length, Option, Some, None, is_some, refl, sym, ap, subst, ◌∙◌, arith}
 use Rattle.std.proofs.lemmas.Bool.Decides.{nat_tests}
 use Rattle.std.proofs.lemmas.List.{length-map}
@@ -22,7 +22,7 @@ use Rattle.pids_charge.specs.Lists.{row_of, rows_of}
 use Rattle.pids_charge.specs.declared.lost.Lost.{Lost}
 use Rattle.charge_laws.specs.Tables.{two}
 
--- ---- processes of a slot
+-- ---- processes of a row
 
 -- who has a pid is x or y
 who : (x y z : Process ℕ) (q : ℕ) (P : Process ℕ → Type 0) → P x → P y → two x y q ≡ Some z → P z
@@ -32,7 +32,7 @@ who x y z q P px py e =
       | false ↦ elim (eqb q 2) as (λ b. cond b (Some y) None ≡ Some z → P z) [ true ↦ λ h. subst P (same_Some y z h) py | false ↦ λ h. cc ]
     ] e
 
-pub one_home : (x y : Process ℕ) → x.slot ≡ y.slot → HaveOneHome (two x y) ↔ (x.home ≡ y.home)
+pub one_home : (x y : Process ℕ) → x.row ≡ y.row → HaveOneHome (two x y) ↔ (x.home ≡ y.home)
 one_home x y s = (
   λ h. h 1 2 x y refl refl s,
   λ e p q v w hp hq _.
@@ -40,29 +40,29 @@ one_home x y s = (
 )
 
 -- two processes of the slots of x and y that have one slot are the same one
-apart_is : (x y v w : Process ℕ) (p q : ℕ) → x.slot ≢ y.slot → two x y p ≡ Some v → two x y q ≡ Some w → v.slot ≡ w.slot → v.home ≡ w.home
+apart_is : (x y v w : Process ℕ) (p q : ℕ) → x.row ≢ y.row → two x y p ≡ Some v → two x y q ≡ Some w → v.row ≡ w.row → v.home ≡ w.home
 apart_is x y v w p q n hp hq =
-    who x y v p (λ (a : Process ℕ). a.slot ≡ w.slot → a.home ≡ w.home)
-    (who x y w q (λ (b : Process ℕ). x.slot ≡ b.slot → x.home ≡ b.home) (λ _. refl) (λ e. absurd (n e)) hq)
-    (who x y w q (λ (b : Process ℕ). y.slot ≡ b.slot → y.home ≡ b.home) (λ e. absurd (n (sym e))) (λ _. refl) hq)
+    who x y v p (λ (a : Process ℕ). a.row ≡ w.row → a.home ≡ w.home)
+    (who x y w q (λ (b : Process ℕ). x.row ≡ b.row → x.home ≡ b.home) (λ _. refl) (λ e. absurd (n e)) hq)
+    (who x y w q (λ (b : Process ℕ). y.row ≡ b.row → y.home ≡ b.home) (λ e. absurd (n (sym e))) (λ _. refl) hq)
     hp
 
-pub any_home : (x y : Process ℕ) → x.slot ≢ y.slot → HaveOneHome (two x y)
+pub any_home : (x y : Process ℕ) → x.row ≢ y.row → HaveOneHome (two x y)
 any_home x y n p q v w hp hq e = apart_is x y v w p q n hp hq e
 
 abbrev flag : Bool → ℕ
 flag b = cond b 1 0
 
-pub member_is : (s : ℕ) (x : Process ℕ) → (member_at s (Some x) ≡ 1) ↔ (x.slot ≡ s)
+pub member_is : (s : ℕ) (x : Process ℕ) → (member_at s (Some x) ≡ 1) ↔ (x.row ≡ s)
 member_is s x =
-    elim (eqb x.slot s) as (λ b. eqb x.slot s ≡ b → (flag b ≡ 1) ↔ (x.slot ≡ s)) [
+    elim (eqb x.row s) as (λ b. eqb x.row s ≡ b → (flag b ≡ 1) ↔ (x.row ≡ s)) [
       | true ↦ λ t. (λ _. grind (arith, nat_tests), λ _. refl)
       | false ↦ λ t. (λ e. absurd (omega (arith, e)), λ e. grind (arith, nat_tests))
     ] refl
 
 pub member_once : (s : ℕ) (o : Option (Process ℕ)) → member_at s o ≤ 1
 member_once s None = omega arith
-member_once s (Some x) = elim (eqb x.slot s) as (λ b. cond b 1 0 ≤ 1) [ true ↦ omega arith | false ↦ omega arith ]
+member_once s (Some x) = elim (eqb x.row s) as (λ b. cond b 1 0 ≤ 1) [ true ↦ omega arith | false ↦ omega arith ]
 
 pub all_members : (s : ℕ) (o : Option (Process ℕ)) → chosen_at s [] o ≡ member_at s o
 all_members s None = refl

@@ -2,7 +2,7 @@
 //!
 //! Each function's contract is a law or a worked example, and its body is empty.
 //!
-//! - `tables`: processes by slot, a table of charges, lists of lost processes, and event totals.
+//! - `tables`: processes by row, a table of charges, lists of lost processes, and event totals.
 //! - `faults`: which refusal a fault stands for, and what a call does of a command.
 //! - `runs`: how a settlement is cut into runs, and what its parts leave.
 //!

@@ -1,4 +1,4 @@
-//! The laws of tables: the processes of a slot, the charges of a meter, what a kill lists, and event totals.
+//! The laws of tables: the processes of a row, the charges of a meter, what a kill lists, and event totals.
 
 ghost use Rattle.std.specs.Prelude.{◌≡◌, ◌≢◌, ◌↔◌, ◌+◌, ◌<◌, ◌≤◌, ◌^◌, ◌++◌, ◌∷◌, ℕ, true, List, [], Option, Some, None, codes, length};
 ghost use Rattle.std.specs.FinMap.{get};
@@ -17,12 +17,12 @@ ghost use Rattle.pids_charge.specs.Table.{table_at, table_held};
 ghost use Rattle.pids_charge.specs.declared.lost.Lost.{Lost};
 ghost use Rattle.charge_laws.specs.Tables.{rows, two};
 
-/// Two processes of one slot have one home exactly if their homes are equal; processes of two slots may have any. A process
-/// is a member of its own slot, once. Those at or below the root are all members.
-pub fn processes_of_a_slot()
-    ensures same { (x y : Process ℕ) → x.slot ≡ y.slot → HaveOneHome (two x y) ↔ (x.home ≡ y.home) }
-    ensures others { (x y : Process ℕ) → x.slot ≢ y.slot → HaveOneHome (two x y) }
-    ensures member { (s : ℕ) (x : Process ℕ) → (member_at s (Some x) ≡ 1) ↔ (x.slot ≡ s) }
+/// Two processes of one row have one home exactly if their homes are equal; processes of two rows may have any. A process
+/// is a member of its own row, once. Those at or below the root are all members.
+pub fn processes_of_a_row()
+    ensures same { (x y : Process ℕ) → x.row ≡ y.row → HaveOneHome (two x y) ↔ (x.home ≡ y.home) }
+    ensures others { (x y : Process ℕ) → x.row ≢ y.row → HaveOneHome (two x y) }
+    ensures member { (s : ℕ) (x : Process ℕ) → (member_at s (Some x) ≡ 1) ↔ (x.row ≡ s) }
     ensures once { (s : ℕ) (o : Option (Process ℕ)) → member_at s o ≤ 1 }
     ensures nobody { (s : ℕ) → member_at {A = ℕ} s None ≡ 0 }
     ensures root { (s : ℕ) (o : Option (Process ℕ)) → chosen_at s [] o ≡ member_at s o }

@@ -1,4 +1,4 @@
-//! A table of processes whose groups are those of a list, one for each slot, and the calls on it.
+//! A table of processes whose groups are those of a list, one for each row, and the calls on it.
 
 ghost use Rattle.std.specs.Prelude.{◌≡◌, []};
 ghost use Rattle.std.specs.List.{All, slice_index_or};
@@ -12,7 +12,7 @@ use std::sync::Wait;
 use std::thread::Threads;
 use test_support::{Case, CaseFault, Outcome, Subject, push_escaped};
 
-/// The group of each slot. The two below `/a` allocate memory wherever they are kept.
+/// The group of each row. The two below `/a` allocate memory wherever they are kept.
 const HOMES: [&[u8]; 4] = [
     b"/",
     b"/a",
@@ -20,13 +20,13 @@ const HOMES: [&[u8]; 4] = [
     b"/a/bbbbbbbbbbbbbbbbbbbbbbbb/c",
 ];
 
-/// A process of slot s is in group s of the list.
+/// A process of row s is in group s of the list.
 #[derive(Drop)]
 pub(crate) struct Homed<A: Allocator + Clone> {
     homes: Vec<GroupPath<Global>>,
     alloc: A,
     table: ProcessTable<A>,
-    ghost homed: { All (λ p. p.home ≡ slice_index_or homes.items p.slot []) (values_of table) },
+    ghost homed: { All (λ p. p.home ≡ slice_index_or homes.items p.row []) (values_of table) },
 }
 
 /// Appends numbers with blanks between them.
@@ -58,22 +58,22 @@ impl<A: Allocator + Clone> Homed<A> {
         })
     }
 
-    /// Inserts a process, and returns the slot and the leaf of the one that had the pid.
+    /// Inserts a process, and returns the row and the leaf of the one that had the pid.
     pub(crate) fn put(
         &mut self,
         pid: u32,
-        slot: u16,
+        row: u16,
         leaf: u8,
     ) -> Result<Option<(u16, u8)>, AllocError> {
-        let at = usize::from(slot);
+        let at = usize::from(row);
         if at >= self.homes.len() {
             return Err(AllocError);
         }
         let home = self.homes[at].copy(self.alloc.clone()?)?;
-        match self.table.insert(pid, Process { home, slot, leaf }) {
+        match self.table.insert(pid, Process { home, row, leaf }) {
             Err(error) => Err(error),
             Ok(None) => Ok(None),
-            Ok(Some(before)) => Ok(Some((before.slot, before.leaf))),
+            Ok(Some(before)) => Ok(Some((before.row, before.leaf))),
         }
     }
 
@@ -82,10 +82,10 @@ impl<A: Allocator + Clone> Homed<A> {
         self.table.take(pid)
     }
 
-    /// What is read of a process: its slot and its leaf.
+    /// What is read of a process: its row and its leaf.
     pub(crate) fn read(&self, pid: u32) -> Option<(u16, u8)> {
         match self.table.get(pid) {
-            Some(process) if self.table.has(pid) => Some((process.slot, process.leaf)),
+            Some(process) if self.table.has(pid) => Some((process.row, process.leaf)),
             _ => None,
         }
     }
@@ -93,20 +93,20 @@ impl<A: Allocator + Clone> Homed<A> {
     pub(crate) fn members<B: Allocator>(
         &self,
         alloc: B,
-        slot: u16,
+        row: u16,
     ) -> Result<Vec<u32, B>, AllocError> {
-        let mut pids = Vec::from_slice(alloc, self.table.unordered(slot))?;
+        let mut pids = Vec::from_slice(alloc, self.table.unordered(row))?;
         pids.sort_unstable();
         Ok(pids)
     }
 
-    /// The pids at or below the group of a slot.
+    /// The pids at or below the group of a row.
     pub(crate) fn inside<B: Allocator>(
         &self,
         alloc: B,
-        slot: u16,
+        row: u16,
     ) -> Result<Vec<u32, B>, AllocError> {
-        let Some(path) = self.homes.get(usize::from(slot)) else {
+        let Some(path) = self.homes.get(usize::from(row)) else {
             return Err(AllocError);
         };
         self.table.inside(alloc, path)
@@ -118,10 +118,10 @@ impl<A: Allocator + Clone> Homed<A> {
     }
 }
 
-/// Appends a slot and a leaf.
+/// Appends a row and a leaf.
 fn push_place(said: &mut String, place: Option<(u16, u8)>) -> Result<Outcome, AllocError> {
-    if let Some((slot, leaf)) = place {
-        write!(said, "{slot} {leaf}")?;
+    if let Some((row, leaf)) = place {
+        write!(said, "{row} {leaf}")?;
     }
     Ok(Outcome::Answered)
 }
@@ -147,12 +147,12 @@ impl<A: Allocator + Clone> Subject for Homed<A> {
         said: &mut String,
     ) -> Result<Outcome, CaseFault> {
         let first = (case.number(1)? % 4_294_967_296) as u32;
-        let slot = (first % 65_536) as u16;
+        let row = (first % 65_536) as u16;
         let outcome = match case.word(0) {
             b"insert" => {
-                let slot = (case.number(2)? % 65_536) as u16;
+                let row = (case.number(2)? % 65_536) as u16;
                 let leaf = (case.number(3)? % 256) as u8;
-                match self.put(first, slot, leaf) {
+                match self.put(first, row, leaf) {
                     Ok(before) => push_place(said, before)?,
                     Err(AllocError) => Outcome::RefusedAndKept,
                 }
@@ -161,14 +161,14 @@ impl<A: Allocator + Clone> Subject for Homed<A> {
             b"take" => match self.take(first) {
                 None => Outcome::Answered,
                 Some(process) => {
-                    let slot = process.slot;
-                    write!(said, "{slot} ")?;
+                    let row = process.row;
+                    write!(said, "{row} ")?;
                     push_escaped(said, process.home.text())?;
                     Outcome::Answered
                 }
             },
-            b"members" => push_list(said, self.members(self.over()?, slot))?,
-            b"inside" => push_list(said, self.inside(self.over()?, slot))?,
+            b"members" => push_list(said, self.members(self.over()?, row))?,
+            b"inside" => push_list(said, self.inside(self.over()?, row))?,
             b"random" => {
                 match many_calls(alloc, first)? {
                     None => said.push_str("ok")?,
@@ -182,13 +182,13 @@ impl<A: Allocator + Clone> Subject for Homed<A> {
     }
 
     fn show(&mut self, alloc: Global, text: &mut String) -> Result<(), AllocError> {
-        for slot in 0..4u16 {
-            for pid in self.members(alloc, slot)? {
+        for row in 0..4u16 {
+            for pid in self.members(alloc, row)? {
                 let place = self.read(pid);
                 write!(text, "{pid} in {place:?}, ")?;
             }
-            let inside = self.inside(alloc, slot)?;
-            write!(text, "inside {slot} {inside:?}, ")?;
+            let inside = self.inside(alloc, row)?;
+            write!(text, "inside {row} {inside:?}, ")?;
         }
         Ok(())
     }

@@ -59,7 +59,7 @@ pub(crate) fn push_record<A: Allocator + Clone>(
         Inverse::Removed { path, attr } => {
             text.push_str("removed ")?;
             push_escaped(text, path.text())?;
-            push_attr(alloc, text, attr)
+            push_attr(alloc, text, &**attr)
         }
         Inverse::Forked { pid, peaks } => {
             write!(text, "forked {}", pid.get())?;

@@ -15,6 +15,7 @@ ghost use Rattle.std.specs.Prelude.{
 };
 ghost use Rattle.std.specs.FinMap.{insert};
 ghost use Rattle.std.specs.declared.alloc.Global.{Global};
+ghost use Rattle.std.specs.declared.boxed.Box.{Box};
 ghost use Rattle.flat_model.specs.Command as model;
 ghost use Rattle.flat_model.specs.CommandText.{command_text};
 ghost use Rattle.flat_model.specs.Inverse.{back, place_all};
@@ -123,9 +124,9 @@ pub fn replies_by_their_answers()
 pub fn records_by_what_they_give_back()
     ensures made { (s : State) (p : Path)
         → back (inverse_of {A = Global} (kept.Made p)) s ≡ after s (model.RemoveGroup p) }
-    ensures removed { (s : State) (p : Path) (x : Attr)
+    ensures removed { (s : State) (p : Path) (x : Box Attr Global)
         → back (inverse_of {A = Global} (kept.Removed p x)) s
-        ≡ record s { groups = insert s.groups p (group_of x) } }
+        ≡ record s { groups = insert s.groups p (group_of x.value) } }
     ensures forked { (s : State) (pid : ℕ) (peaks : List ℕ)
         → back (inverse_of {A = Global} (kept.Forked pid peaks)) s
         ≡ set_peaks (home_of s pid) peaks (after s (model.Exit pid)) }

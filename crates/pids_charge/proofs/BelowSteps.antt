@@ -11,7 +11,7 @@ use Rattle.flat_model.proofs.PathLaws.{at_or_below_itself, same_path_is}
 use Rattle.group_tree.specs.Groups.{Groups}
 use Rattle.pids_charge.specs.declared.group.Group.{Group}
 use Rattle.pids_charge.specs.GroupRows.{ChangesCounts, IsRowOf, attrs_of, belows_of, ups_of, with_rows}
-use Rattle.pids_charge.specs.Lists.{table_slot}
+use Rattle.pids_charge.specs.Lists.{row_at}
 use Rattle.pids_charge.proofs.BelowCounts.{above_parent, not_above}
 use Rattle.pids_charge.proofs.InRows.{closed_rows, read_inside, row_is, rows_apart}
 use Rattle.pids_charge.proofs.ParentRows.{attr_of, below_of, below_read, belows_set, up_of, up_read}
@@ -36,11 +36,11 @@ module _ (rows : List Group) (at : ℕ) (r : Group) (read : r ≡ get_or rows at
 
 -- ---- the groups on the way
 
-is_root : (m : Groups) (f : Path) → table_slot m f ≡ 0 → f ≡ []
+is_root : (m : Groups) (f : Path) → row_at m f ≡ 0 → f ≡ []
 is_root m [] e = refl
 is_root m (n ∷ f) e = absurd (omega (arith, e))
 
-has_names : (m : Groups) (f : Path) → table_slot m f ≢ 0 → 0 < length f
+has_names : (m : Groups) (f : Path) → row_at m f ≢ 0 → 0 < length f
 has_names m [] ne = absurd (ne refl)
 has_names m (n ∷ f) ne = omega arith
 
@@ -49,16 +49,16 @@ root_alone [] = refl
 root_alone (n ∷ q) = refl
 
 -- the row of the group at f alone is changed
-own_row : (g : ℕ → ℕ) (m : Groups) (f q : Path) → (table_slot m q ≡ table_slot m f → q ≡ f) → (belows : List ℕ) → table_slot m f < length belows
-    → get_or (set belows (table_slot m f) (g (get_or belows (table_slot m f) 0))) (table_slot m q) 0
-    ≡ cond (same_path q f) (g (get_or belows (table_slot m q) 0)) (get_or belows (table_slot m q) 0)
+own_row : (g : ℕ → ℕ) (m : Groups) (f q : Path) → (row_at m q ≡ row_at m f → q ≡ f) → (belows : List ℕ) → row_at m f < length belows
+    → get_or (set belows (row_at m f) (g (get_or belows (row_at m f) 0))) (row_at m q) 0
+    ≡ cond (same_path q f) (g (get_or belows (row_at m q) 0)) (get_or belows (row_at m q) 0)
 own_row g m f q apart belows inside = elim (same_path q f) as (λ b. same_path q f ≡ b
-    → get_or (set belows (table_slot m f) (g (get_or belows (table_slot m f) 0))) (table_slot m q) 0 ≡ cond b (g (get_or belows (table_slot m q) 0)) (get_or belows (table_slot m q) 0)) [
+    → get_or (set belows (row_at m f) (g (get_or belows (row_at m f) 0))) (row_at m q) 0 ≡ cond b (g (get_or belows (row_at m q) 0)) (get_or belows (row_at m q) 0)) [
       | true ↦ λ t.
-          let same : table_slot m q ≡ table_slot m f = ap (table_slot m) ((same_path_is q f).0 t) in
-          get_or-set_at belows (table_slot m f) (table_slot m q) (g (get_or belows (table_slot m f) 0)) 0 same inside ∙ ap (λ k. g (get_or belows k 0)) (sym same)
+          let same : row_at m q ≡ row_at m f = ap (row_at m) ((same_path_is q f).0 t) in
+          get_or-set_at belows (row_at m f) (row_at m q) (g (get_or belows (row_at m f) 0)) 0 same inside ∙ ap (λ k. g (get_or belows k 0)) (sym same)
       | false ↦ λ t.
-          get_or-set_other belows (table_slot m f) (table_slot m q) (g (get_or belows (table_slot m f) 0)) 0
+          get_or-set_other belows (row_at m f) (row_at m q) (g (get_or belows (row_at m f) 0)) 0
           (λ e. false≢true (sym t ∙ (same_path_is q f).1 (apart e)))
     ] refl
 
@@ -79,7 +79,7 @@ then_above g v f q named = elim (same_path q f) as (λ b. same_path q f ≡ b �
 pub record IsLeft (g : ℕ → ℕ) (groups : Groups) (p : Path) (old now : List ℕ) (n at : ℕ) : Type 0 where
   pub group : Path
   pub there : IsSome (fin.get groups group)
-  pub here : at ≡ table_slot groups group
+  pub here : at ≡ row_at groups group
   pub steps : length group + n ≡ length p
   pub left : (last : List ℕ) → ChangesCounts g groups group now last → ChangesCounts g groups p old last
 
@@ -98,11 +98,11 @@ module _ (g : ℕ → ℕ) (tree : Groups) (start : List Group) (p : Path) (firs
         omega (arith, inside, ap length attrs, length-map rows attr_of)
 
     module _ (r : Group) (read : r ≡ get_or rows at r) (below : ℕ) (changed : below ≡ g r.below) where
-      step : (q : Path) → IsSome (fin.get m q) → get_or (belows_of (set rows at (with_below r below))) (table_slot m q) 0
-          ≡ cond (same_path q on.group) (g (get_or (belows_of rows) (table_slot m q) 0)) (get_or (belows_of rows) (table_slot m q) 0)
+      step : (q : Path) → IsSome (fin.get m q) → get_or (belows_of (set rows at (with_below r below))) (row_at m q) 0
+          ≡ cond (same_path q on.group) (g (get_or (belows_of rows) (row_at m q) 0)) (get_or (belows_of rows) (row_at m q) 0)
       step q i =
           let here = on.here in
-          ap (λ (bs : List ℕ). get_or bs (table_slot m q) 0)
+          ap (λ (bs : List ℕ). get_or bs (row_at m q) 0)
           (count_set rows at r read below g changed row_there ∙ ap (λ (k : ℕ). set (belows_of rows) k (g (get_or (belows_of rows) k 0))) here)
           ∙ own_row g m on.group q (rows_apart tree (attrs_of start) is.has_rows m refl q on.group i on.there) (belows_of rows) (omega (arith, row_there, here, length-map rows below_of))
 
@@ -110,7 +110,7 @@ module _ (g : ℕ → ℕ) (tree : Groups) (start : List Group) (p : Path) (firs
       last_step e =
           let root : on.group ≡ [] = is_root m on.group (sym on.here ∙ e) in
           on.left (belows_of (set rows at (with_below r below))) (λ q i. step q i
-          ∙ ap (λ b. cond b (g (get_or (belows_of rows) (table_slot m q) 0)) (get_or (belows_of rows) (table_slot m q) 0))
+          ∙ ap (λ b. cond b (g (get_or (belows_of rows) (row_at m q) 0)) (get_or (belows_of rows) (row_at m q) 0))
           (ap (same_path q) root ∙ root_alone q ∙ ap (λ (f : Path). at_or_below f q) (sym root)))
 
       pub next_step : at ≢ 0 → (to : ℕ) → to ≡ r.up → IsLeft g (with_rows tree (attrs_of start)) p (belows_of start) (belows_of (set rows at (with_below r below))) (n + 1) to
@@ -124,5 +124,5 @@ module _ (g : ℕ → ℕ) (tree : Groups) (start : List Group) (p : Path) (firs
                 ∙ ap (λ (us : List ℕ). get_or us at 0) ups ∙ ap (λ (k : ℕ). get_or (ups_of start) k 0) on.here ∙ is.has_parents on.group on.there;
             steps = omega (arith, steps, named, length-take-le (length on.group - 1) on.group (omega arith));
             left = λ last changes. on.left last (λ q i. changes q i
-                ∙ ap (λ (k : ℕ). cond (at_or_below (parent on.group) q) (g k) k) (step q i) ∙ then_above g (get_or (belows_of rows) (table_slot m q) 0) on.group q named);
+                ∙ ap (λ (k : ℕ). cond (at_or_below (parent on.group) q) (g k) k) (step q i) ∙ then_above g (get_or (belows_of rows) (row_at m q) 0) on.group q named);
           }

@@ -12,7 +12,7 @@ use Rattle.pids_charge.specs.Content.{Content}
 use Rattle.pids_charge.specs.Lists.{Row}
 use Rattle.pids_charge.specs.Recount.{HasSlots, Recounted, IsPlaced, SameSlots, chain_at, charges_of}
 use Rattle.pids_charge.proofs.Entries.{sum_by-same}
-use Rattle.pids_charge.proofs.TableSlots.{table_slot_same}
+use Rattle.pids_charge.proofs.RowsAt.{row_at_same}
 
 -- what an insert leaves at a path
 pub which : (tree : Groups) (p : Path) (x : Attr) (q : Path) → ((q ≡ p) × (fin.get (fin.insert tree p x) q ≡ Some x)) ⊎ ((q ≡ p → ⊥) × (fin.get (fin.insert tree p x) q ≡ fin.get tree q))
@@ -69,7 +69,7 @@ module _ (old new : Groups) (same : SameSlots old new) where
     pids = d.pids;
     placed = All-weaker (λ p. IsPlaced leaves old p) (λ p. IsPlaced leaves new p) (λ p h. record {
       home = is p.home h.home;
-      slot = h.slot ∙ table_slot_same old new p.home (sym (same.slots p.home));
+      row = h.row ∙ row_at_same old new p.home (sym (same.slots p.home));
       leaf_below = h.leaf_below;
     }) (values_of es) d.placed;
     counted = λ s j. d.counted s j

@@ -8,7 +8,7 @@ use Rattle.group_tree.specs.Groups.{Groups, IsClosed, descendant_count, only_roo
 use Rattle.group_tree.specs.declared.attr.Attr.{Attr}
 use Rattle.pids_charge.specs.declared.above.Change.TheVariants.{Raise, Lower}
 use Rattle.pids_charge.specs.GroupRows.{ChangesCounts, HasCounts, HasRows, below_after, in_row, with_rows}
-use Rattle.pids_charge.specs.Lists.{table_slot}
+use Rattle.pids_charge.specs.Lists.{row_at}
 use Rattle.pids_charge.proofs.BelowCounts.{below_few, below_left, below_made, below_own, not_above, not_itself, strictly_above}
 use Rattle.pids_charge.proofs.Changes.{which}
 use Rattle.pids_charge.proofs.InRows.{there_too, tree_has}
@@ -17,7 +17,7 @@ use Rattle.pids_charge.proofs.StartState.{alone}
 -- ---- rows of the same groups
 
 module _ (tree : Groups) (a b : List Attr) (h : HasRows tree a) (k : HasRows tree b) (belows after : List ℕ) (counts : HasCounts (with_rows tree a) belows)
-    (reads : (q : Path) → IsSome (fin.get (with_rows tree a) q) → get_or after (table_slot (with_rows tree a) q) 0 ≡ get_or belows (table_slot (with_rows tree a) q) 0) where
+    (reads : (q : Path) → IsSome (fin.get (with_rows tree a) q) → get_or after (row_at (with_rows tree a) q) 0 ≡ get_or belows (row_at (with_rows tree a) q) 0) where
   same_counts : (q : Path) → descendant_count (with_rows tree a) q ≡ descendant_count (with_rows tree b) q
   same_counts q =
       let keys : fin.keys (with_rows tree a) ≡ fin.keys (with_rows tree b) = keys-map_values (in_row a) tree ∙ sym (keys-map_values (in_row b) tree) in
@@ -27,7 +27,7 @@ module _ (tree : Groups) (a b : List Attr) (h : HasRows tree a) (k : HasRows tre
   counts_stay = λ q i.
       let t = tree_has tree b q i in
       let j = there_too tree a q t.attr t.there in
-      let same : table_slot (with_rows tree b) q ≡ table_slot (with_rows tree a) q = sym (k.each q t.attr t.there).number ∙ (h.each q t.attr t.there).number in
+      let same : row_at (with_rows tree b) q ≡ row_at (with_rows tree a) q = sym (k.each q t.attr t.there).number ∙ (h.each q t.attr t.there).number in
       ap (λ n. get_or after n 0) same ∙ reads q j ∙ counts q j ∙ same_counts q
 
 -- the root alone
@@ -42,20 +42,20 @@ root_none root =
 pub root_counts : (root : Attr) → HasCounts (only_root root) (0 ∷ [])
 root_counts root = λ q i.
     let is = alone root q i in
-    ap (λ (r : Path). get_or (0 ∷ []) (table_slot (only_root root) r) 0) is
+    ap (λ (r : Path). get_or (0 ∷ []) (row_at (only_root root) r) 0) is
     ∙ sym (root_none root) ∙ ap (descendant_count (only_root root)) (sym is)
 
 -- ---- a group is made, or removed: m are the groups then, and the rows of those above its path p have changed their counts
 
 module _ (s m : Groups) (p : Path) (named : 0 < length p) (belows after : List ℕ) where
   pub made_counts : (x : Attr) → fin.len s < 2 ^ 16 → IsClosed s → fin.get s p ≡ None → m ≡ fin.insert s p x
-      → ((q : Path) → IsSome (fin.get s q) → get_or belows (table_slot m q) 0 ≡ descendant_count s q) → get_or belows (table_slot m p) 0 ≡ 0
+      → ((q : Path) → IsSome (fin.get s q) → get_or belows (row_at m q) 0 ≡ descendant_count s q) → get_or belows (row_at m p) 0 ≡ 0
       → ChangesCounts (below_after Raise) m (parent p) belows after → HasCounts m after
   made_counts x few whole absent is others own changes = λ q i. changes q i ∙ elim (which s p x q) [
     | inl w ↦
         let at : at_or_below (parent p) q ≡ false = ap (at_or_below (parent p)) w.0 ∙ not_above p named in
-        ap (λ b. cond b (below_after Raise (get_or belows (table_slot m q) 0)) (get_or belows (table_slot m q) 0)) at
-        ∙ ap (λ (r : Path). get_or belows (table_slot m r) 0) w.0 ∙ own ∙ sym (below_own s p x whole absent) ∙ ap (descendant_count (fin.insert s p x)) (sym w.0)
+        ap (λ b. cond b (below_after Raise (get_or belows (row_at m q) 0)) (get_or belows (row_at m q) 0)) at
+        ∙ ap (λ (r : Path). get_or belows (row_at m r) 0) w.0 ∙ own ∙ sym (below_own s p x whole absent) ∙ ap (descendant_count (fin.insert s p x)) (sym w.0)
         ∙ ap (λ (n : Groups). descendant_count n q) (sym is)
     | inr w ↦
         let old : IsSome (fin.get s q) = subst IsSome (ap (λ (n : Groups). fin.get n q) is ∙ w.1) i in
@@ -71,7 +71,7 @@ module _ (s m : Groups) (p : Path) (named : 0 < length p) (belows after : List �
       one_more false n l = omega arith
 
   pub left_counts : (x : Attr) → fin.get s p ≡ Some x → m ≡ fin.remove s p → fin.get m p ≡ None
-      → ((q : Path) → IsSome (fin.get m q) → get_or belows (table_slot m q) 0 ≡ descendant_count s q)
+      → ((q : Path) → IsSome (fin.get m q) → get_or belows (row_at m q) 0 ≡ descendant_count s q)
       → ChangesCounts (below_after Lower) m (parent p) belows after → HasCounts m after
   left_counts x here is gone others changes = λ q i.
       let apart : q ≡ p → ⊥ = λ e. let none : IsSome {T = Attr} None = subst IsSome (ap (fin.get m) e ∙ gone) i in cc in

@@ -1,5 +1,5 @@
 -- What a fork is refused with, and what it leaves.
-use Rattle.std.proofs.Common.{◌≡◌, ℕ, ◌+◌, ◌<◌, Bool, true, false, cond, not, Option, Some, None, IsSome, is_some, Result, Ok, Err, OnOk}
+use Rattle.std.proofs.Common.{◌≡◌, ℕ, ◌+◌, ◌<◌, Bool, true, false, cond, not, Option, Some, None, IsSome, is_some, Result, Ok, Err, IfErr, OnOk}
 use Rattle.std.proofs.Common.{List, [], length, take, option_map, unwrap_or, refl, sym, ap, ◌∙◌}
 use Rattle.std.proofs.lemmas.Bool.{false≢true}
 use Rattle.std.specs.Ordering.{nat_cmp}
@@ -15,6 +15,7 @@ use Rattle.flat_model.specs.CommandText.{IsPid}
 use Rattle.flat_model.specs.Step.{refusal, home_of, after, raise_peaks}
 use Rattle.group_tree.specs.Groups.{Groups}
 use Rattle.pids_charge.specs.declared.fault.ChargeFault.{ChargeFault}
+use Rattle.pids_charge.specs.declared.fault.ChargeFault.TheVariants.{OutOfMemory}
 use Rattle.pids_charge.specs.Content.{Content}
 use Rattle.pids_charge.specs.Events.{full_by, longest}
 use Rattle.pids_charge.specs.Lists.{Row, process_in}
@@ -54,6 +55,16 @@ pub home_at : {A : Type 0} (leaves : ℕ) (tree : Groups) (es : List (Row A)) (c
     → Recounted leaves tree es content held → (s : State) → state_of tree es ≡ s → (from : ℕ) (x : Process A)
     → lookup (is_at (nat_cmp from)) es ≡ Some x → home_of s from ≡ x.home
 home_at leaves tree es content held d s v from x found = ap (λ (o : Option Path). unwrap_or o []) (home-is s tree es v d.ordered from ∙ ap (option_map (λ p. p.home)) found)
+
+-- a fork whose parent the table has, and whose child it doesn't have, is refused by a limit at most
+pub pids_ready : {A : Type 0} (tree : Groups) (es : List (Row A)) → IsStrictlySortedBy nat_cmp (keys_of es) → (s : State) → state_of tree es ≡ s → (parent child : ℕ) (x : Process A)
+    → lookup (is_at (nat_cmp parent)) es ≡ Some x → is_some (lookup (is_at (nat_cmp child)) es) ≡ false → (has_process s parent ≡ true) × (has_process s child ≡ false)
+pids_ready tree es ordered s v parent child x found new = (process-is s tree es v ordered parent ∙ ap is_some found, process-is s tree es v ordered child ∙ new)
+
+-- what holds of any fork that is out of memory
+pub when_out_of_memory : {T : Type 0} (P : Type 0) (r : Result T ChargeFault) → P → IfErr r (λ f. f ≡ OutOfMemory → P)
+when_out_of_memory P (Ok x) h = tt
+when_out_of_memory P (Err f) h = λ _. h
 
 twice : (q : Path) (o : Option ℕ) → option_map OverPidsMax (option_map (λ n. take n q) o) ≡ option_map (λ n. OverPidsMax (take n q)) o
 twice q None = refl
@@ -97,12 +108,12 @@ not_there s tree es v sorted k e = nobody (lookup (is_at (nat_cmp k)) es) (sym (
 module _ {A : Type 0} (slots leaves : ℕ) (tree new : Groups) (es fs : List (Row A)) (content final : Content) (held held2 : ℕ)
     (d : Recounted leaves tree es content held) (free : List ℕ) (h : HasSlots slots tree free) (same : SameSlots tree new)
     (child leaf : ℕ) (x : Process A) (placed : IsPlaced leaves tree x) (absent : lookup (is_at (nat_cmp child)) es ≡ None)
-    (pid : IsPid child) (rows : fs ≡ insert_entry nat_cmp es child (process_in x.home x.slot leaf))
+    (pid : IsPid child) (rows : fs ≡ insert_entry nat_cmp es child (process_in x.home x.row leaf))
     (ordered : IsStrictlySortedBy nat_cmp (keys_of fs))
     (below : leaf < leaves) (charged : (s j : ℕ) → final s j ≡ with_charges tree x.home leaf content s j) (held_is : held2 ≡ held + length x.home) where
   come : Recounted leaves tree fs (with_charges tree x.home leaf content) held2
-  come = added leaves tree es content held d child (process_in x.home x.slot leaf) fs (with_charges tree x.home leaf content) held2 absent
-      pid rows ordered (record { home = placed.home; slot = placed.slot; leaf_below = below }) (λ s j. refl) held_is
+  come = added leaves tree es content held d child (process_in x.home x.row leaf) fs (with_charges tree x.home leaf content) held2 absent
+      pid rows ordered (record { home = placed.home; row = placed.row; leaf_below = below }) (λ s j. refl) held_is
 
   pub made_recounted : Recounted leaves new fs final held2
   made_recounted = raised_recounted slots leaves tree new fs (with_charges tree x.home leaf content) final held2 come same charged
@@ -111,6 +122,6 @@ module _ {A : Type 0} (slots leaves : ℕ) (tree new : Groups) (es fs : List (Ro
       → ((q : Path) → fin.get new q ≡ option_map (raised_by leaves (with_charges tree x.home leaf content) x.home q) (fin.get tree q)) → state_of new fs ≡ after s (Fork parent child)
   made_state prefixes s v parent at_home raised =
       let home = sym at_home in
-      let moved = moved-is s tree es v d.ordered child (process_in x.home x.slot leaf) fs (home_of s parent) rows home in
+      let moved = moved-is s tree es v d.ordered child (process_in x.home x.row leaf) fs (home_of s parent) rows home in
       raised_state slots leaves tree new fs (with_charges tree x.home leaf content) final held2 come same free h prefixes x.home raised
       ∙ (λ i. raise_peaks (home i) (moved i))

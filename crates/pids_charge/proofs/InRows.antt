@@ -13,10 +13,10 @@ use Rattle.flat_model.proofs.PathLaws.{path_cmp-IsTotalOrder, path_cmp-IsAntisym
 use Rattle.group_tree.specs.Groups.{Groups, IsClosed, slot_of}
 use Rattle.group_tree.specs.declared.attr.Attr.{Attr}
 use Rattle.pids_charge.specs.GroupRows.{in_row, with_rows, IsInRow, HasRows}
-use Rattle.pids_charge.specs.Lists.{slot_at, table_slot}
+use Rattle.pids_charge.specs.Lists.{slot_at, row_at}
 use Rattle.pids_charge.proofs.Changes.{which}
 use Rattle.pids_charge.proofs.EachChanged.{closed_changes}
-use Rattle.pids_charge.proofs.TableSlots.{table_slot_same}
+use Rattle.pids_charge.proofs.RowsAt.{row_at_same}
 
 -- inside a list it doesn't matter what is read outside
 pub read_inside : {X : Type 0} (xs : List X) (k : ℕ) (d e : X) → k < length xs → get_or xs k d ≡ get_or xs k e
@@ -88,7 +88,7 @@ module _ (tree new : Groups) (rows after : List Attr) (p : Path) (x y : Attr)
   written = fin.same_map path_cmp-IsTotalOrder path_cmp-IsAntisymmetric _ _ at
 
   -- the row's number was that of no other group
-  pub has_rows : HasRows tree rows → IsClosed new → x.slot < length after → length rows ≤ length after → x.slot ≡ table_slot (with_rows new after) p
+  pub has_rows : HasRows tree rows → IsClosed new → x.slot < length after → length rows ≤ length after → x.slot ≡ row_at (with_rows new after) p
       → ((q : Path) (b : Attr) → (q ≡ p → ⊥) → fin.get tree q ≡ Some b → b.slot ≢ x.slot)
       → HasRows new after
   has_rows h closed inside longer number alone = record {
@@ -98,13 +98,13 @@ module _ (tree new : Groups) (rows after : List Attr) (p : Path) (x y : Attr)
           let same : x ≡ b = same_attr (fin.get new q) x b w.1 e in
           subst (λ (c : Attr). IsInRow new after q c) same (record {
             inside = inside;
-            number = number ∙ ap (table_slot (with_rows new after)) (sym w.0);
+            number = number ∙ ap (row_at (with_rows new after)) (sym w.0);
           })
       | inr w ↦
           let old = h.each q b (sym w.1 ∙ e) in
           record {
             inside = omega (arith, old.inside, longer);
-            number = old.number ∙ sym (table_slot_same (with_rows new after) (with_rows tree rows) q (ap slot_of (stays q w.0 w.1)));
+            number = old.number ∙ sym (row_at_same (with_rows new after) (with_rows tree rows) q (ap slot_of (stays q w.0 w.1)));
           }
     ];
     apart = λ q r b c e f same. elim (split q) [
@@ -136,8 +136,8 @@ module _ (tree : Groups) (rows : List Attr) (h : HasRows tree rows) (s : Groups)
   pub absent_is : (p : Path) → fin.get tree p ≡ None → fin.get s p ≡ None
   absent_is p e = ap (λ (m : Groups). fin.get m p) (sym v) ∙ not_in_tree tree rows p e
 
-  pub number_is : (p : Path) (a : Attr) → fin.get tree p ≡ Some a → IsSome (fin.get s p) × (a.slot ≡ table_slot s p)
-  number_is p a e = (subst (λ (m : Groups). IsSome (fin.get m p)) v (there_too tree rows p a e), (h.each p a e).number ∙ ap (λ (m : Groups). table_slot m p) v)
+  pub number_is : (p : Path) (a : Attr) → fin.get tree p ≡ Some a → IsSome (fin.get s p) × (a.slot ≡ row_at s p)
+  number_is p a e = (subst (λ (m : Groups). IsSome (fin.get m p)) v (there_too tree rows p a e), (h.each p a e).number ∙ ap (λ (m : Groups). row_at m p) v)
 
   -- the row of a group
   pub record HasRow (p : Path) (at : ℕ) : Type 0 where
@@ -146,22 +146,22 @@ module _ (tree : Groups) (rows : List Attr) (h : HasRows tree rows) (s : Groups)
     pub slot : attr.slot ≡ at
     pub inside : at < length rows
 
-  pub row_is : (p : Path) (at : ℕ) → IsSome (fin.get s p) → at ≡ table_slot s p → HasRow p at
+  pub row_is : (p : Path) (at : ℕ) → IsSome (fin.get s p) → at ≡ row_at s p → HasRow p at
   row_is p at i e =
       let t = tree_has tree rows p (subst (λ (m : Groups). IsSome (fin.get m p)) (sym v) i) in
       let slot : t.attr.slot ≡ at = (number_is p t.attr t.there).1 ∙ sym e in
       record { attr = t.attr; there = t.there; slot = slot; inside = let inside = (h.each p t.attr t.there).inside in omega (arith, slot, inside) }
 
   -- no two groups have the same row
-  pub rows_apart : (p q : Path) → IsSome (fin.get s p) → IsSome (fin.get s q) → table_slot s p ≡ table_slot s q → p ≡ q
+  pub rows_apart : (p q : Path) → IsSome (fin.get s p) → IsSome (fin.get s q) → row_at s p ≡ row_at s q → p ≡ q
   rows_apart p q i j e =
-      let a = row_is p (table_slot s p) i refl in
-      let b = row_is q (table_slot s q) j refl in
+      let a = row_is p (row_at s p) i refl in
+      let b = row_is q (row_at s q) j refl in
       h.apart p q a.attr b.attr a.there b.there (a.slot ∙ e ∙ sym b.slot)
 
 -- ---- a row is replaced
 
-module _ (tree : Groups) (rows : List Attr) (h : HasRows tree rows) (s : Groups) (v : with_rows tree rows ≡ s) (at : ℕ) (y : Attr) (p : Path) (i : IsSome (fin.get s p)) (e : at ≡ table_slot s p) where
+module _ (tree : Groups) (rows : List Attr) (h : HasRows tree rows) (s : Groups) (v : with_rows tree rows ≡ s) (at : ℕ) (y : Attr) (p : Path) (i : IsSome (fin.get s p)) (e : at ≡ row_at s p) where
   abbrev its : HasRow tree rows h s v p at
   its = row_is tree rows h s v p at i e
 
@@ -174,14 +174,14 @@ module _ (tree : Groups) (rows : List Attr) (h : HasRows tree rows) (s : Groups)
   pub put_is : with_rows tree (set rows at y) ≡ fin.insert s p y
   put_is = written tree tree rows (set rows at y) p its.attr y (same_split tree p its.attr its.there) own_row other_rows ∙ ap (λ (m : Groups). fin.insert m p y) v
 
-  pub put_rows : ((q : Path) (a : Attr) → fin.get s q ≡ Some a → at ≡ table_slot s q → y.slot ≡ a.slot) → HasRows tree (set rows at y)
+  pub put_rows : ((q : Path) (a : Attr) → fin.get s q ≡ Some a → at ≡ row_at s q → y.slot ≡ a.slot) → HasRows tree (set rows at y)
   put_rows same =
       let split = same_split tree p its.attr its.there in
       let was : fin.get s p ≡ Some (in_row rows its.attr) = ap (λ (m : Groups). fin.get m p) (sym v) ∙ in_tree tree rows p its.attr its.there in
       let alike = same p (in_row rows its.attr) was e in
       let is : fin.get (with_rows tree (set rows at y)) p ≡ Some y = in_tree tree (set rows at y) p its.attr its.there ∙ ap Some own_row in
       let slot : slot_at (with_rows tree (set rows at y)) p ≡ slot_at s p = ap slot_of is ∙ alike ∙ sym (ap slot_of was) in
-      let number : its.attr.slot ≡ table_slot (with_rows tree (set rows at y)) p = its.slot ∙ e ∙ sym (table_slot_same (with_rows tree (set rows at y)) s p slot) in
+      let number : its.attr.slot ≡ row_at (with_rows tree (set rows at y)) p = its.slot ∙ e ∙ sym (row_at_same (with_rows tree (set rows at y)) s p slot) in
       has_rows tree tree rows (set rows at y) p its.attr y split own_row other_rows h h.closed
       (omega (arith, length-set rows at y, its.slot, its.inside)) (omega (arith, length-set rows at y)) number
       (λ q b apart there same. apart (h.apart q p b its.attr there its.there same))
@@ -209,7 +209,7 @@ module _ (tree : Groups) (rows : List Attr) (h : HasRows tree rows) (s : Groups)
     closed = h.closed;
     each = λ q a e. let old = h.each q a e in record {
       inside = let inside = old.inside in omega (arith, inside, longer);
-      number = old.number ∙ ap (λ (m : Groups). table_slot m q) (sym long_same);
+      number = old.number ∙ ap (λ (m : Groups). row_at m q) (sym long_same);
     };
     apart = h.apart;
   }
@@ -222,7 +222,7 @@ module _ (tree : Groups) (rows : List Attr) (h : HasRows tree rows) (s : Groups)
     unused : (q : Path) (b : Attr) → fin.get tree q ≡ Some b → b.slot ≢ x.slot
     unused q b e same = by q (number_is tree rows h s v q b e).0 ((number_is tree rows h s v q b e).1)
       where
-        by : (q : Path) → IsSome (fin.get s q) → b.slot ≡ table_slot s q → ⊥
+        by : (q : Path) → IsSome (fin.get s q) → b.slot ≡ row_at s q → ⊥
         by [] i z = omega (arith, z, same, number)
         by (n ∷ q) i z = free (n ∷ q) (omega arith) i (omega (arith, z, same, number))
 
@@ -242,7 +242,7 @@ module _ (tree : Groups) (rows : List Attr) (h : HasRows tree rows) (s : Groups)
         (omega (arith, length-set long x.slot y, listed)) (omega (arith, length-set long x.slot y, longer))
         (by p named own) (λ q b apart e. unused q b e)
       where
-        by : (q : Path) → 0 < length q → fin.get (with_rows new (set long x.slot y)) q ≡ Some y → x.slot ≡ table_slot (with_rows new (set long x.slot y)) q
+        by : (q : Path) → 0 < length q → fin.get (with_rows new (set long x.slot y)) q ≡ Some y → x.slot ≡ row_at (with_rows new (set long x.slot y)) q
         by [] pos e = absurd (omega (arith, pos))
         by (n ∷ q) pos e = omega (arith, number, ap slot_of e)
 
@@ -264,7 +264,7 @@ module _ (tree : Groups) (rows : List Attr) (h : HasRows tree rows) (s : Groups)
     closed = closed;
     each = λ q b e. let old = h.each q b (left q b e) in record {
       inside = old.inside;
-      number = old.number ∙ table_slot_same (with_rows tree rows) (with_rows new rows) q
+      number = old.number ∙ row_at_same (with_rows tree rows) (with_rows new rows) q
           (ap slot_of (in_tree tree rows q b (left q b e)) ∙ sym (ap slot_of (in_tree new rows q b e)));
     };
     apart = λ q r b c e f same. h.apart q r b c (left q b e) (left r c f) same;

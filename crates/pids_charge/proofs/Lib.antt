@@ -2,7 +2,7 @@ mod PositiveSums
 pub mod Tokens
 pub mod InParts
 pub mod Entries
-mod TableSlots
+mod RowsAt
 mod KillLists
 mod ListedProcesses
 mod MeterContents
@@ -36,6 +36,7 @@ mod ProcessExits
 mod FullGroupWalk
 mod FlatTotals
 mod PeakRises
+mod WalkCharges
 mod WalkNotes
 mod ForkOutcomes
 mod Removals

@@ -23,7 +23,7 @@ use Rattle.pids_charge.specs.declared.lost.Lost.{Lost}
 use Rattle.process_table.specs.declared.process.Process.{Process}
 use Rattle.pids_charge.proofs.Entries.{to_sorted, to_ascending, kept_values, kept_keys, sum_by-same}
 use Rattle.pids_charge.proofs.KillLists.{split-sum}
-use Rattle.pids_charge.proofs.TableSlots.{table_slot_same, found_value}
+use Rattle.pids_charge.proofs.RowsAt.{row_at_same, found_value}
 use Rattle.pids_charge.proofs.ListedProcesses.{AreNew, whole_sorted, whole_sum, whole_values, whole_keys}
 
 pub all_both : {X : Type 0} (P Q : X → Type 0) (xs : List X) → All P xs → All Q xs → All (λ x. P x × Q x) xs
@@ -92,7 +92,7 @@ module _ {A : Type 0} (leaves : ℕ) (tree : Groups) (es : List (Row A)) (conten
         placed = All-weaker (λ p. IsPlaced leaves tree p × ((n : ℕ) → fin.get tree2 (take n p.home) ≡ fin.get tree (take n p.home))) (λ p. IsPlaced leaves tree2 p)
             (λ p h.
             let here = ap (fin.get tree2) (sym (take-length p.home)) ∙ h.1 (length p.home) ∙ ap (fin.get tree) (take-length p.home) in
-            record { home = subst IsSome (sym here) h.0.home; slot = h.0.slot ∙ table_slot_same tree tree2 p.home (sym (ap slot_of here)); leaf_below = h.0.leaf_below }) (values_of es) both;
+            record { home = subst IsSome (sym here) h.0.home; row = h.0.row ∙ row_at_same tree tree2 p.home (sym (ap slot_of here)); leaf_below = h.0.leaf_below }) (values_of es) both;
         counted = λ s j. d.counted s j ∙ sum_by-same (λ p. charges_of tree p s j) (λ p. charges_of tree2 p s j) (values_of es)
             (All-weaker (λ p. (n : ℕ) → fin.get tree2 (take n p.home) ≡ fin.get tree (take n p.home)) (λ p. charges_of tree p s j
             ≡ charges_of tree2 p s j) (λ p h. sym (chain_same tree tree2 p.home p.leaf s j (length p.home) h)) (values_of es) same);
@@ -151,7 +151,7 @@ module _ {A : Type 0} (leaves : ℕ) (tree : Groups) (es : List (Row A)) (conten
     pids = d.pids;
     placed = All-weaker (λ p. IsPlaced leaves tree p) (λ p. IsPlaced leaves tree2 p) (λ p h. record {
       home = subst IsSome (sym (same p.home h.home)) h.home;
-      slot = h.slot ∙ table_slot_same tree tree2 p.home (sym (ap slot_of (same p.home h.home)));
+      row = h.row ∙ row_at_same tree tree2 p.home (sym (ap slot_of (same p.home h.home)));
       leaf_below = h.leaf_below;
     }) (values_of es) d.placed;
     counted = λ s j. d.counted s j
@@ -176,7 +176,7 @@ module _ {A : Type 0} (leaves : ℕ) (tree : Groups) (es : List (Row A)) (conten
         pids = whole_keys tree leaf es sorted IsPid ls d.pids pids;
         placed = whole_values tree leaf es sorted (λ p. IsPlaced leaves tree p) ls d.placed
             (All-weaker (λ l. IsSome (fin.get tree l.path)) (λ l. IsPlaced {A = A} leaves tree (placed_at tree leaf l))
-            (λ l h. record { home = h; slot = refl; leaf_below = lt }) ls homes);
+            (λ l h. record { home = h; row = refl; leaf_below = lt }) ls homes);
         counted = λ s j. omega (arith, more s j, d.counted s j, whole_sum tree leaf es sorted (λ p. charges_of tree p s j) ls new);
         held_is = omega (arith, more_held, d.held_is, whole_sum tree leaf es sorted (λ p. length p.home) ls new);
       }

@@ -13,13 +13,13 @@ use Rattle.group_tree.specs.Groups.{Groups, IsClosed, descendant_count, only_roo
 use Rattle.group_tree.specs.declared.attr.Attr.{Attr}
 use Rattle.pids_charge.specs.declared.group.Group.{Group}
 use Rattle.pids_charge.specs.GroupRows.{HasCounts, HasParents, HasRows, HasTable, KeepsPaths, attrs_of, belows_of, in_row, ups_of, with_rows}
-use Rattle.pids_charge.specs.Lists.{slot_at, table_slot}
+use Rattle.pids_charge.specs.Lists.{slot_at, row_at}
 use Rattle.pids_charge.proofs.Changes.{by_some, changed_slots, which}
 use Rattle.pids_charge.proofs.CountsUp.{counts_stay}
 use Rattle.pids_charge.proofs.InRows.{closed_rows, in_tree, long_is, long_rows, put_is, put_rows, read_inside, row_is}
 use Rattle.pids_charge.proofs.ParentSteps.{own_slot}
 use Rattle.pids_charge.proofs.StartState.{alone}
-use Rattle.pids_charge.proofs.TableSlots.{table_slot_same}
+use Rattle.pids_charge.proofs.RowsAt.{row_at_same}
 
 -- ---- what rows say
 
@@ -71,33 +71,33 @@ module _ (rows long : List Group) (longer : length rows ≤ length long) (kept :
       get_or-map attr_of long k d ∙ ap attr_of (kept k d (omega (arith, l, length-map rows attr_of))) ∙ sym (get_or-map attr_of rows k d)
 
   pub ups_kept : (tree : Groups) (h : HasRows tree (attrs_of rows)) (s : Groups) (v : with_rows tree (attrs_of rows) ≡ s)
-      → (q : Path) → IsSome (fin.get s q) → get_or (ups_of long) (table_slot s q) 0 ≡ get_or (ups_of rows) (table_slot s q) 0
+      → (q : Path) → IsSome (fin.get s q) → get_or (ups_of long) (row_at s q) 0 ≡ get_or (ups_of rows) (row_at s q) 0
   ups_kept tree h s v q i =
-      let its = row_is tree (attrs_of rows) h s v q (table_slot s q) i refl in
+      let its = row_is tree (attrs_of rows) h s v q (row_at s q) i refl in
       let d : Group = record { attr = its.attr; below = 0; up = 0 } in
       let inside = its.inside in
-      get_or-map up_of long (table_slot s q) d ∙ ap up_of (kept (table_slot s q) d (omega (arith, inside, length-map rows attr_of))) ∙ sym (get_or-map up_of rows (table_slot s q) d)
+      get_or-map up_of long (row_at s q) d ∙ ap up_of (kept (row_at s q) d (omega (arith, inside, length-map rows attr_of))) ∙ sym (get_or-map up_of rows (row_at s q) d)
 
   pub belows_kept : (tree : Groups) (h : HasRows tree (attrs_of rows)) (s : Groups) (v : with_rows tree (attrs_of rows) ≡ s)
-      → (q : Path) → IsSome (fin.get s q) → get_or (belows_of long) (table_slot s q) 0 ≡ get_or (belows_of rows) (table_slot s q) 0
+      → (q : Path) → IsSome (fin.get s q) → get_or (belows_of long) (row_at s q) 0 ≡ get_or (belows_of rows) (row_at s q) 0
   belows_kept tree h s v q i =
-      let its = row_is tree (attrs_of rows) h s v q (table_slot s q) i refl in
+      let its = row_is tree (attrs_of rows) h s v q (row_at s q) i refl in
       let d : Group = record { attr = its.attr; below = 0; up = 0 } in
       let inside = its.inside in
-      get_or-map below_of long (table_slot s q) d ∙ ap below_of (kept (table_slot s q) d (omega (arith, inside, length-map rows attr_of))) ∙ sym (get_or-map below_of rows (table_slot s q) d)
+      get_or-map below_of long (row_at s q) d ∙ ap below_of (kept (row_at s q) d (omega (arith, inside, length-map rows attr_of))) ∙ sym (get_or-map below_of rows (row_at s q) d)
 
 -- ---- the root alone
 
 pub root_parents : (root : Attr) → HasParents (only_root root) (0 ∷ [])
-root_parents root = λ q i. ap (λ (r : Path). get_or (0 ∷ []) (table_slot (only_root root) r) 0) (alone root q i) ∙ ap (λ (r : Path). table_slot (only_root root) (parent r)) (sym (alone root q i))
+root_parents root = λ q i. ap (λ (r : Path). get_or (0 ∷ []) (row_at (only_root root) r) 0) (alone root q i) ∙ ap (λ (r : Path). row_at (only_root root) (parent r)) (sym (alone root q i))
 
 -- ---- other groups, with the slots that they had
 
 module _ (s new : Groups) (ups after : List ℕ) (h : HasParents s ups) (was : (q : Path) → IsSome (fin.get new q) → IsSome (fin.get s q))
     (slots : (q : Path) → IsSome (fin.get new q) → slot_at new q ≡ slot_at s q) (closed : IsClosed new)
-    (reads : (q : Path) → IsSome (fin.get s q) → get_or after (table_slot s q) 0 ≡ get_or ups (table_slot s q) 0) where
-  same_row : (q : Path) → IsSome (fin.get new q) → table_slot new q ≡ table_slot s q
-  same_row q i = table_slot_same new s q (slots q i)
+    (reads : (q : Path) → IsSome (fin.get s q) → get_or after (row_at s q) 0 ≡ get_or ups (row_at s q) 0) where
+  same_row : (q : Path) → IsSome (fin.get new q) → row_at new q ≡ row_at s q
+  same_row q i = row_at_same new s q (slots q i)
 
   pub parents_stay : HasParents new after
   parents_stay = λ q i. ap (λ k. get_or after k 0) (same_row q i) ∙ reads q (was q i) ∙ h q (was q i) ∙ sym (same_row (parent q) (closed.parents q i))
@@ -123,26 +123,26 @@ module _ (s : Groups) (ups : List ℕ) (h : HasParents s ups) (p : Path) where
   -- a group is made
   module _ (x : Attr) (named : 0 < length p) (absent : fin.get s p ≡ None) (closed : IsClosed s) (there : IsSome (fin.get s (parent p)))
       (free : (q : Path) → 0 < length q → IsSome (fin.get s q) → slot_at s q ≢ x.slot)
-      (long : List ℕ) (reads : (q : Path) → IsSome (fin.get s q) → get_or long (table_slot s q) 0 ≡ get_or ups (table_slot s q) 0) where
-    stays : (q : Path) → IsSome (fin.get s q) → table_slot (fin.insert s p x) q ≡ table_slot s q
+      (long : List ℕ) (reads : (q : Path) → IsSome (fin.get s q) → get_or long (row_at s q) 0 ≡ get_or ups (row_at s q) 0) where
+    stays : (q : Path) → IsSome (fin.get s q) → row_at (fin.insert s p x) q ≡ row_at s q
     stays q i = elim (which s p x q) [
       | inl w ↦ let gone : IsSome {T = Attr} None = subst IsSome (ap (fin.get s) w.0 ∙ absent) i in cc
-      | inr w ↦ table_slot_same (fin.insert s p x) s q (ap slot_of w.1)
+      | inr w ↦ row_at_same (fin.insert s p x) s q (ap slot_of w.1)
     ]
 
-    unused : (q : Path) → IsSome (fin.get s q) → table_slot s q ≢ x.slot + 1
+    unused : (q : Path) → IsSome (fin.get s q) → row_at s q ≢ x.slot + 1
     unused [] i e = omega (arith, e)
     unused (n ∷ q) i e = free (n ∷ q) (omega arith) i (omega (arith, e))
 
-    pub made_parents : (above : ℕ) → above ≡ table_slot s (parent p) → x.slot + 1 < length long → HasParents (fin.insert s p x) (set long (x.slot + 1) above)
+    pub made_parents : (above : ℕ) → above ≡ row_at s (parent p) → x.slot + 1 < length long → HasParents (fin.insert s p x) (set long (x.slot + 1) above)
     made_parents above is inside = λ q i. elim (which s p x q) [
       | inl w ↦
-          let at : table_slot (fin.insert s p x) q ≡ x.slot + 1 = omega (arith, own_slot (fin.insert s p x) q (omega (arith, named, ap length w.0)), ap slot_of w.1) in
-          get_or-set_at long (x.slot + 1) (table_slot (fin.insert s p x) q) above 0 at inside ∙ is ∙ sym (stays (parent p) there)
-          ∙ ap (λ (r : Path). table_slot (fin.insert s p x) (parent r)) (sym w.0)
+          let at : row_at (fin.insert s p x) q ≡ x.slot + 1 = omega (arith, own_slot (fin.insert s p x) q (omega (arith, named, ap length w.0)), ap slot_of w.1) in
+          get_or-set_at long (x.slot + 1) (row_at (fin.insert s p x) q) above 0 at inside ∙ is ∙ sym (stays (parent p) there)
+          ∙ ap (λ (r : Path). row_at (fin.insert s p x) (parent r)) (sym w.0)
       | inr w ↦
           let old = subst IsSome w.1 i in
-          ap (λ k. get_or (set long (x.slot + 1) above) k 0) (stays q old) ∙ get_or-set_other long (x.slot + 1) (table_slot s q) above 0 (unused q old)
+          ap (λ k. get_or (set long (x.slot + 1) above) k 0) (stays q old) ∙ get_or-set_other long (x.slot + 1) (row_at s q) above 0 (unused q old)
           ∙ reads q old ∙ h q old ∙ sym (stays (parent q) (closed.parents q old))
     ]
 
@@ -154,26 +154,26 @@ module _ (tree : Groups) (rows : List Group) (r : HasRows tree (attrs_of rows)) 
   as_seen = subst (λ (m : Groups). HasParents m (ups_of rows)) v h
 
   -- a group has the row k
-  module _ (p : Path) (at k : ℕ) (i : IsSome (fin.get s p)) (e : at ≡ table_slot s p) (from : k ≡ at) where
+  module _ (p : Path) (at k : ℕ) (i : IsSome (fin.get s p)) (e : at ≡ row_at s p) (from : k ≡ at) where
     pub row_inside : k < length rows
     row_inside = let inside = (row_is tree (attrs_of rows) r s v p at i e).inside in omega (arith, from, inside, length-map rows attr_of)
 
-    pub up_is : (g : Group) → g ≡ get_or rows k g → g.up ≡ table_slot s (parent p)
+    pub up_is : (g : Group) → g ≡ get_or rows k g → g.up ≡ row_at s (parent p)
     up_is g read =
         let inside = (row_is tree (attrs_of rows) r s v p at i e).inside in
-        up_read rows k (table_slot s p) g read (from ∙ e)
-        ∙ read_inside (ups_of rows) (table_slot s p) g.up 0 (omega (arith, e, inside, length-map rows attr_of, length-map rows up_of)) ∙ as_seen p i
+        up_read rows k (row_at s p) g read (from ∙ e)
+        ∙ read_inside (ups_of rows) (row_at s p) g.up 0 (omega (arith, e, inside, length-map rows attr_of, length-map rows up_of)) ∙ as_seen p i
 
   -- how many groups are below a group that has the row k
   module _ (counts : HasCounts (with_rows tree (attrs_of rows)) (belows_of rows)) where
     pub counts_seen : HasCounts s (belows_of rows)
     counts_seen = subst (λ (m : Groups). HasCounts m (belows_of rows)) v counts
 
-    pub below_is : (p : Path) (at k : ℕ) (i : IsSome (fin.get s p)) (e : at ≡ table_slot s p) (from : k ≡ at) (g : Group) → g ≡ get_or rows k g → g.below ≡ descendant_count s p
+    pub below_is : (p : Path) (at k : ℕ) (i : IsSome (fin.get s p)) (e : at ≡ row_at s p) (from : k ≡ at) (g : Group) → g ≡ get_or rows k g → g.below ≡ descendant_count s p
     below_is p at k i e from g read =
         let inside = (row_is tree (attrs_of rows) r s v p at i e).inside in
-        below_read rows k (table_slot s p) g read (from ∙ e)
-        ∙ read_inside (belows_of rows) (table_slot s p) g.below 0 (omega (arith, e, inside, length-map rows attr_of, length-map rows below_of)) ∙ counts_seen p i
+        below_read rows k (row_at s p) g read (from ∙ e)
+        ∙ read_inside (belows_of rows) (row_at s p) g.below 0 (omega (arith, e, inside, length-map rows attr_of, length-map rows below_of)) ∙ counts_seen p i
 
   -- a group is changed, made or removed: what is seen then
   module _ (new : Groups) (attrs : List Attr) (seen : Groups) (is : with_rows new attrs ≡ seen) (closed : IsClosed new) where
@@ -213,13 +213,13 @@ module _ (tree : Groups) (rows : List Group) (r : HasRows tree (attrs_of rows)) 
     }
 
     pub seen_made : (p : Path) (x : Attr) → 0 < length p → fin.get s p ≡ None → IsSome (fin.get s (parent p)) → ((q : Path) → 0 < length q → IsSome (fin.get s q) → slot_at s q ≢ x.slot)
-        → (above : ℕ) → above ≡ table_slot s (parent p) → x.slot + 1 < length long → HasParents (fin.insert s p x) (set (ups_of long) (x.slot + 1) above)
+        → (above : ℕ) → above ≡ row_at s (parent p) → x.slot + 1 < length long → HasParents (fin.insert s p x) (set (ups_of long) (x.slot + 1) above)
     seen_made p x named absent there free above is inside =
         made_parents s (ups_of rows) as_seen p x named absent closed_now there free (ups_of long) (ups_kept rows long longer kept tree r s v) above is
         (omega (arith, inside, length-map long up_of))
 
   -- a row gets other attributes
-  module _ (p : Path) (at k : ℕ) (i : IsSome (fin.get s p)) (e : at ≡ table_slot s p) (from : k ≡ at) (y : Attr) (g : Group) (read : g ≡ get_or rows k g) where
+  module _ (p : Path) (at k : ℕ) (i : IsSome (fin.get s p)) (e : at ≡ row_at s p) (from : k ≡ at) (y : Attr) (g : Group) (read : g ≡ get_or rows k g) where
     abbrev put_rows_now : List Group
     put_rows_now = set rows k (with_attr g y)
 
@@ -229,7 +229,7 @@ module _ (tree : Groups) (rows : List Group) (r : HasRows tree (attrs_of rows)) 
     pub seen_put : with_rows tree (attrs_of put_rows_now) ≡ fin.insert s p y
     seen_put = ap (with_rows tree) attrs_put ∙ put_is tree (attrs_of rows) r s v at y p i e
 
-    pub put_table : ((q : Path) (a : Attr) → fin.get s q ≡ Some a → at ≡ table_slot s q → y.slot ≡ a.slot) → HasCounts (with_rows tree (attrs_of rows)) (belows_of rows)
+    pub put_table : ((q : Path) (a : Attr) → fin.get s q ≡ Some a → at ≡ row_at s q → y.slot ≡ a.slot) → HasCounts (with_rows tree (attrs_of rows)) (belows_of rows)
         → (paths : List (Option Path)) → KeepsPaths tree paths → HasTable tree put_rows_now paths
     put_table same counts paths keeps =
         let its = row_is tree (attrs_of rows) r s v p at i e in
@@ -240,6 +240,6 @@ module _ (tree : Groups) (rows : List Group) (r : HasRows tree (attrs_of rows)) 
           has_parents = seen_changed tree (attrs_of put_rows_now) (fin.insert s p y) seen_put r.closed p y (in_row (attrs_of rows) its.attr) here
               (same p (in_row (attrs_of rows) its.attr) here e) refl (ups_of put_rows_now) (ups_put rows k y g read);
           has_counts = counts_stay tree (attrs_of rows) (attrs_of put_rows_now) r has (belows_of rows) (belows_of put_rows_now) counts
-              (λ q _. ap (λ (bs : List ℕ). get_or bs (table_slot (with_rows tree (attrs_of rows)) q) 0) (belows_put rows k y g read));
+              (λ q _. ap (λ (bs : List ℕ). get_or bs (row_at (with_rows tree (attrs_of rows)) q) 0) (belows_put rows k y g read));
           keeps_paths = keeps;
         }

@@ -18,7 +18,7 @@ use Rattle.group_tree.specs.Groups.{Groups, slot_of}
 use Rattle.group_tree.specs.declared.attr.Attr.{Attr}
 use Rattle.snzi_tokens.specs.Listed.{over_leaves}
 use Rattle.pids_charge.specs.Content.{Content}
-use Rattle.pids_charge.specs.Lists.{Row, table_slot}
+use Rattle.pids_charge.specs.Lists.{Row, row_at}
 use Rattle.pids_charge.specs.Peaks.{peak_of, reached_of, raised_by, AreUpward, peaked_by, IsNoted, Noted}
 use Rattle.pids_charge.specs.Recount.{Recounted, HasSlots, SameSlots, state_of}
 use Rattle.pids_charge.proofs.Changes.{charges_stay}
@@ -135,12 +135,6 @@ module _ {A : Type 0} (slots leaves : ℕ) (tree new : Groups) (es : List (Row A
   raised_state free h prefixes p raised =
       let s : State = state_of tree es in
       flat_changed (raised_by leaves final p) tree new raised (raise_peak s p) (raised-is slots leaves tree es final held d free h prefixes p) s.home
-
--- notes of the group in a row are those of whatever group has that row
-pub noted_of_row : (tree : Groups) → ((p q : Path) → IsSome (fin.get tree p) → IsSome (fin.get tree q) → table_slot tree p ≡ table_slot tree q → p ≡ q)
-    → (p : Path) → IsSome (fin.get tree p) → (row : ℕ) → row ≡ table_slot tree p → (notes : Noted) → IsNoted tree p notes
-    → (q : Path) → IsSome (fin.get tree q) → row ≡ table_slot tree q → IsNoted tree q notes
-noted_of_row tree apart p there row here notes noted q also same = subst (λ (r : Path). IsNoted tree r notes) (apart p q there also (sym here ∙ same)) noted
 
 -- a slice that was lent whole stands in the list whole
 pub lent_whole : (ns new : List ℕ) (n : ℕ) → n ≡ length new → take n (new ++ drop (length new) ns) ≡ new

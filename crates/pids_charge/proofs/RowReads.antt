@@ -11,7 +11,7 @@ use Rattle.group_tree.specs.declared.attr.Attr.{Attr}
 use Rattle.group_tree.specs.declared.fault.TreeFault.{TreeFault}
 use Rattle.group_tree.specs.declared.fault.TreeFault.TheVariants as fault
 use Rattle.pids_charge.specs.GroupRows.{in_row, with_rows, HasRows}
-use Rattle.pids_charge.specs.Lists.{table_slot}
+use Rattle.pids_charge.specs.Lists.{row_at}
 use Rattle.pids_charge.proofs.Changes.{which}
 use Rattle.pids_charge.proofs.InRows.{known_or_not, there_too, absent_is}
 
@@ -77,7 +77,7 @@ module _ (a : Attr) (zero_slot : a.slot ≡ 0) (tree : Groups) (is : tree ≡ on
         let slot : b.slot ≡ 0 = ap (λ (c : Attr). c.slot) only.1 ∙ zero_slot in
         record {
           inside = omega (arith, slot);
-          number = slot ∙ sym (ap (table_slot (with_rows tree (a ∷ []))) only.0);
+          number = slot ∙ sym (ap (row_at (with_rows tree (a ∷ []))) only.0);
         };
     apart = λ p q b c e f same. (root_only p b e).0 ∙ sym (root_only q c f).0;
   }

@@ -13,12 +13,12 @@ use Rattle.process_table.specs.declared.process.Process.{Process}
 use Rattle.process_table.proofs.CellTies.{same_either_way}
 use Rattle.process_table.proofs.RowLaws.{count-same, counted}
 use Rattle.pids_charge.specs.GroupRows.{IsOfGroup}
-use Rattle.pids_charge.specs.Lists.{Row, is_inside, table_slot}
+use Rattle.pids_charge.specs.Lists.{Row, is_inside, row_at}
 use Rattle.pids_charge.specs.Recount.{IsPlaced, SlotsBelow}
-use Rattle.pids_charge.proofs.TableSlots.{found_value}
+use Rattle.pids_charge.proofs.RowsAt.{found_value}
 
 -- a group's row is at most its slot and one
-pub row_below : (slots : ℕ) (tree : Groups) → SlotsBelow slots tree → (p : Path) → IsSome (fin.get tree p) → table_slot tree p < slots + 1
+pub row_below : (slots : ℕ) (tree : Groups) → SlotsBelow slots tree → (p : Path) → IsSome (fin.get tree p) → row_at tree p < slots + 1
 row_below slots tree below [] i = omega arith
 row_below slots tree below (n ∷ p) i = let low = below (n ∷ p) (omega arith) i in omega (arith, low)
 
@@ -32,8 +32,8 @@ module _ {A : Type 0} (leaves : ℕ) (tree : Groups) (es : List (Row A)) (placed
   module _ (at : ℕ) (own : List ℕ) (has : (q : ℕ) → count_by (eqb q) own ≡ member_at at (process q)) where
     of_first : (q : ℕ) → 0 < count_by (eqb q) own → (o : Option (Process A)) → process q ≡ o → IsOfGroup tree at
     of_first q some None e = absurd (omega (arith, some, has q, ap (member_at at) e))
-    of_first q some (Some x) e = elim (eqb x.slot at) as (λ b. eqb x.slot at ≡ b → IsOfGroup tree at) [
-      | true ↦ λ t. let i = its_place q x e in record { path = x.home; there = i.home; here = sym (eqb-true x.slot at t) ∙ i.slot }
+    of_first q some (Some x) e = elim (eqb x.row at) as (λ b. eqb x.row at ≡ b → IsOfGroup tree at) [
+      | true ↦ λ t. let i = its_place q x e in record { path = x.home; there = i.home; here = sym (eqb-true x.row at t) ∙ i.row }
       | false ↦ λ t. absurd (omega (arith, some, has q ∙ ap (member_at at) e ∙ ap (λ b. cond b 1 0) t))
     ] refl
 
@@ -58,29 +58,29 @@ module _ {A : Type 0} (leaves : ℕ) (tree : Groups) (es : List (Row A)) (placed
 
           by : (o : Option (Process A)) → process q ≡ o → chosen_at at p o ≡ 0
           by None e = refl
-          by (Some x) e = elim (eqb x.slot at) as (λ b. eqb x.slot at ≡ b → ◌≡◌ {A = ℕ} (cond b (cond (at_or_below x.home p) 1 0) 0) 0) [
+          by (Some x) e = elim (eqb x.row at) as (λ b. eqb x.row at ≡ b → ◌≡◌ {A = ℕ} (cond b (cond (at_or_below x.home p) 1 0) 0) 0) [
             | true ↦ λ t. absurd (omega (arith, nothing own short, has q ∙ ap (member_at at) e ∙ ap (λ b. cond b 1 0) t))
             | false ↦ λ t. refl
           ] refl
 
       -- all of a row, or none
-      pub chosen_in : (b : Bool) → ((r : Path) → IsSome (fin.get tree r) → at ≡ table_slot tree r → b ≡ at_or_below r p) → (q : ℕ) → cond b (count_by (eqb q) own) 0 ≡ chosen_at at p (process q)
+      pub chosen_in : (b : Bool) → ((r : Path) → IsSome (fin.get tree r) → at ≡ row_at tree r → b ≡ at_or_below r p) → (q : ℕ) → cond b (count_by (eqb q) own) 0 ≡ chosen_at at p (process q)
       chosen_in b says q = ap (λ n. cond b n 0) (has q) ∙ by (process q) refl
         where
           by : (o : Option (Process A)) → process q ≡ o → cond b (member_at at o) 0 ≡ chosen_at at p o
           by None e = same_either_way b 0
-          by (Some x) e = elim (eqb x.slot at) as (λ c. eqb x.slot at ≡ c → ◌≡◌ {A = ℕ} (cond b (cond c 1 0) 0) (cond c (cond (at_or_below x.home p) 1 0) 0)) [
-            | true ↦ λ t. let i = its_place q x e in ap (λ c. cond c 1 0) (says x.home i.home (sym (eqb-true x.slot at t) ∙ i.slot))
+          by (Some x) e = elim (eqb x.row at) as (λ c. eqb x.row at ≡ c → ◌≡◌ {A = ℕ} (cond b (cond c 1 0) 0) (cond c (cond (at_or_below x.home p) 1 0) 0)) [
+            | true ↦ λ t. let i = its_place q x e in ap (λ c. cond c 1 0) (says x.home i.home (sym (eqb-true x.row at t) ∙ i.row))
             | false ↦ λ t. same_either_way b 0
           ] refl
 
   -- all rows have all of them
-  pub chosen_all : (n : ℕ) → ((r : Path) → IsSome (fin.get tree r) → table_slot tree r < n) → (p : Path) (q : ℕ) → chosen_below n p (process q) ≡ counted (is_inside p) q (process q)
+  pub chosen_all : (n : ℕ) → ((r : Path) → IsSome (fin.get tree r) → row_at tree r < n) → (p : Path) (q : ℕ) → chosen_below n p (process q) ≡ counted (is_inside p) q (process q)
   chosen_all n low p q = by (process q) refl
     where
       by : (o : Option (Process A)) → process q ≡ o → chosen_below n p o ≡ counted (is_inside p) q o
       by None e = refl
       by (Some x) e =
           let i = its_place q x e in
-          let lt : x.slot < n = omega (arith, i.slot, low x.home i.home) in
-          ap (λ b. cond b (cond (at_or_below x.home p) 1 0) 0) (lt-ltb x.slot n lt)
+          let lt : x.row < n = omega (arith, i.row, low x.home i.home) in
+          ap (λ b. cond b (cond (at_or_below x.home p) 1 0) 0) (lt-ltb x.row n lt)

@@ -13,11 +13,11 @@ use Rattle.group_tree.specs.Groups.{Groups, slot_of}
 use Rattle.group_tree.specs.declared.attr.Attr.{Attr}
 use Rattle.pids_charge.specs.Events.{counted_by}
 use Rattle.pids_charge.specs.GroupRows.{IsOfGroup}
-use Rattle.pids_charge.specs.Lists.{table_slot}
+use Rattle.pids_charge.specs.Lists.{row_at}
 use Rattle.pids_charge.specs.Peaks.{peaked_by}
 use Rattle.pids_charge.proofs.Changes.{which}
-use Rattle.pids_charge.proofs.TableSlots.{table_slot_same}
-use Rattle.pids_charge.proofs.ParentSteps.{own_slot, step_by}
+use Rattle.pids_charge.proofs.RowsAt.{row_at_same}
+use Rattle.pids_charge.proofs.ParentSteps.{own_slot, step_by, step_up}
 
 -- the first n groups from p upward, changed by f from their places on the way
 abbrev pub up_by : Path → (ℕ → Attr → Attr) → ℕ → Path → Attr → Attr
@@ -122,8 +122,8 @@ module _ (p : Path) (f : ℕ → Attr → Attr) where
     slot_of_kept q None = refl
     slot_of_kept q (Some a) = slot_kept q a
 
-    pub table_slots_kept : (q : Path) → table_slot now q ≡ table_slot old q
-    table_slots_kept q = table_slot_same now old q (ap slot_of (h q) ∙ slot_of_kept q (fin.get old q))
+    pub rows_at_kept : (q : Path) → row_at now q ≡ row_at old q
+    rows_at_kept q = row_at_same now old q (ap slot_of (h q) ∙ slot_of_kept q (fin.get old q))
 
     pub still_there : (q : Path) → IsSome (fin.get old q) → IsSome (fin.get now q)
     still_there q i = subst IsSome (sym (h q)) (by (fin.get old q) i)
@@ -137,18 +137,18 @@ module _ (p : Path) (f : ℕ → Attr → Attr) where
 -- the walk is at the n-th group from p upward, whose processes are in slot `at` of their table
 pub record IsStepAt (old now : Groups) (p : Path) (n at : ℕ) : Type 0 where
   pub there : IsSome (fin.get now (take (length p - n) p))
-  pub here : at ≡ table_slot now (take (length p - n) p)
+  pub here : at ≡ row_at now (take (length p - n) p)
   pub positive : 1 ≤ at
-  pub next : (up : ℕ) → ((q : Path) → IsSome (fin.get now q) → at ≡ table_slot now q → up ≡ table_slot now (parent q)) → up ≡ table_slot old (take (length p - (n + 1)) p)
+  pub next : (up : ℕ) → ((q : Path) → IsSome (fin.get now q) → at ≡ row_at now q → up ≡ row_at now (parent q)) → up ≡ row_at old (take (length p - (n + 1)) p)
 
 pub step_at : (old : Groups) (p : Path) → IsSome (fin.get old p)
     → ((p q : Path) → IsSome (fin.get old p) → at_or_below p q ≡ true → IsSome (fin.get old q))
     → (f : ℕ → Attr → Attr) → ((k : ℕ) (a : Attr) → (f k a).slot ≡ a.slot) → (n : ℕ) → n < length p → (now : Groups) → ((q : Path) → fin.get now q ≡ option_map (up_by p f n q) (fin.get old q))
-    → (at : ℕ) → at ≡ table_slot old (take (length p - n) p) → IsStepAt old now p n at
+    → (at : ℕ) → at ≡ row_at old (take (length p - n) p) → IsStepAt old now p n at
 step_at old p home prefixes f keeps n l now h at e =
     let own : Path = take (length p - n) p in
     let up = step_by old p home prefixes at (length p - n) (length p - (n + 1)) (omega arith) e (omega (arith, l)) in
-    let same = table_slots_kept p f keeps n old now h in
+    let same = rows_at_kept p f keeps n old now h in
     record {
       there = still_there p f keeps n old now h own (prefixes p own home (take_above (length p - n) p));
       here = e ∙ sym (same own);
@@ -156,9 +156,17 @@ step_at old p home prefixes f keeps n l now h at e =
       next = λ above says. up.next above (λ q i is. says q (still_there p f keeps n old now h q i) (is ∙ sym (same q)) ∙ same (parent q));
     }
 
+-- a walk that is below the root has not passed all groups
+pub way_left : (tree : Groups) (p : Path) → IsSome (fin.get tree p) → ((p q : Path) → IsSome (fin.get tree p) → at_or_below p q ≡ true → IsSome (fin.get tree q))
+    → (n at : ℕ) → at ≡ row_at tree (take (length p - n) p) → 0 < at → n < length p
+way_left tree p home prefixes n at here pos =
+    let step = step_up tree p home prefixes at (length p - n) (length p - (n + 1)) (omega arith) here pos (omega arith) in
+    let more = step.more in
+    omega (arith, more)
+
 -- after n steps up from the group at p, changed by f, the walk is in the row `at`
 pub record IsPartWay (old now : Groups) (p : Path) (f : ℕ → Attr → Attr) (n at : ℕ) : Type 0 where
-  pub here : at ≡ table_slot old (take (length p - n) p)
+  pub here : at ≡ row_at old (take (length p - n) p)
   pub changed : (q : Path) → fin.get now q ≡ option_map (up_by p f n q) (fin.get old q)
 
 pub part_step : (old : Groups) (p : Path) → IsSome (fin.get old p)

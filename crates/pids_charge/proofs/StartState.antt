@@ -18,7 +18,7 @@ use Rattle.group_tree.specs.Flat.{group_of}
 use Rattle.group_tree.specs.declared.attr.Attr.{Attr}
 use Rattle.flat_model.specs.CommandText.{IsPid}
 use Rattle.pids_charge.specs.Content.{Content, IsEmpty}
-use Rattle.pids_charge.specs.Lists.{table_slot}
+use Rattle.pids_charge.specs.Lists.{row_at}
 use Rattle.pids_charge.specs.Recount.{AreAllFree, IsWhole, IsPlaced, charges_at, charges_of, state_of}
 use Rattle.process_table.specs.declared.process.Process.{Process}
 
@@ -64,9 +64,9 @@ module _ {A : Type 0} (a : Attr) (tree : Groups) (is : tree ≡ only_root a) (x 
       (fin.len (fin.empty {X = Attr} {R = path_cmp}) + 1)) (fin.get-empty path_cmp []) ∙ ap (λ n. n + 1) (fin.len-empty path_cmp Attr)
 
   pub started : (slots leaves capacity : ℕ) (free : List ℕ) (content : Content) (held : ℕ)
-      → IsClosed tree → AreAllFree slots free → slots < 2 ^ 16 → slots ≤ capacity → IsEmpty content held → x.slot ≡ 0 → x.leaf ≡ 0 → 1 ≤ leaves
+      → IsClosed tree → AreAllFree slots free → slots < 2 ^ 16 → slots ≤ capacity → IsEmpty content held → x.row ≡ 0 → x.leaf ≡ 0 → 1 ≤ leaves
       → IsWhole slots leaves tree ((1, x) ∷ []) free capacity content held
-  started slots leaves capacity free content held closed h few room empty slot leaf some = record {
+  started slots leaves capacity free content held closed h few room empty row leaf some = record {
     has_slots = record {
       few = few;
       closed = closed;
@@ -85,7 +85,7 @@ module _ {A : Type 0} (a : Attr) (tree : Groups) (is : tree ≡ only_root a) (x 
       placed = All-cons (λ p. IsPlaced leaves tree p) x []
           (record {
             home = subst (λ (q : Path). IsSome (fin.get tree q)) (sym home) closed.root;
-            slot = slot ∙ sym (ap (table_slot tree) home);
+            row = row ∙ sym (ap (row_at tree) home);
             leaf_below = omega (arith, leaf);
           }) (search rules);
       counted = λ s j. let none : charges_at tree x.home x.leaf s j ≡ 0 = ap (λ (q : Path). charges_at tree q x.leaf s j) home in

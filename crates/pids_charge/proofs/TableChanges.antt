@@ -12,13 +12,13 @@ use Rattle.group_tree.specs.declared.attr.Attr.{Attr}
 use Rattle.pids_charge.specs.declared.group.Group.{Group}
 use Rattle.pids_charge.specs.declared.above.Change.TheVariants.{Raise, Lower}
 use Rattle.pids_charge.specs.GroupRows.{ChangesCounts, HasCounts, HasParents, HasRows, HasTable, IsRowOf, KeepsPaths, attrs_of, below_after, belows_of, in_row, ups_of, with_rows}
-use Rattle.pids_charge.specs.Lists.{slot_at, table_slot}
+use Rattle.pids_charge.specs.Lists.{slot_at, row_at}
 use Rattle.pids_charge.proofs.Changes.{which}
 use Rattle.pids_charge.proofs.CountsUp.{left_counts, made_counts}
 use Rattle.pids_charge.proofs.InRows.{closed_rows, in_tree, left_is, left_rows, made_is, made_rows}
 use Rattle.pids_charge.proofs.ParentRows.{attr_of, attrs_kept, attrs_longer, attrs_set, below_of, belows_kept, belows_set, counts_seen, seen_left, seen_made, ups_set}
 use Rattle.pids_charge.proofs.ParentSteps.{own_slot}
-use Rattle.pids_charge.proofs.TableSlots.{table_slot_same}
+use Rattle.pids_charge.proofs.RowsAt.{row_at_same}
 
 pub has_a_name : (p : Path) → p ≢ [] → 0 < length p
 has_a_name [] ne = absurd (ne refl)
@@ -48,7 +48,7 @@ module _ (tree : Groups) (rows : List Group) (r : HasRows tree (attrs_of rows)) 
 
   module _ (long : List Group) (longer : length rows ≤ length long) (kept : (k : ℕ) (d : Group) → k < length rows → get_or long k d ≡ get_or rows k d)
       (p : Path) (x y : Attr) (named : 0 < length p) (number : x.slot ≡ y.slot + 1) (absent : fin.get s p ≡ None) (there : IsSome (fin.get s (parent p)))
-      (free : (q : Path) → 0 < length q → IsSome (fin.get s q) → slot_at s q ≢ y.slot) (above : ℕ) (is : above ≡ table_slot s (parent p))
+      (free : (q : Path) → 0 < length q → IsSome (fin.get s q) → slot_at s q ≢ y.slot) (above : ℕ) (is : above ≡ row_at s (parent p))
       (new : Groups) (then : new ≡ fin.insert tree p x) (closed : IsClosed new) (k : ℕ) (from : k ≡ x.slot) (inside : x.slot < length long) where
     abbrev row : Group
     row = record { attr = y; below = 0; up = above }
@@ -81,13 +81,13 @@ module _ (tree : Groups) (rows : List Group) (r : HasRows tree (attrs_of rows)) 
     own_there : fin.get m p ≡ Some y
     own_there = ap (λ (n : Groups). fin.get n p) seen_now ∙ get-own path_cmp-IsTotalOrder path_cmp-IsAntisymmetric s p y
 
-    slot_stays : (q : Path) → IsSome (fin.get s q) → table_slot m q ≡ table_slot s q
+    slot_stays : (q : Path) → IsSome (fin.get s q) → row_at m q ≡ row_at s q
     slot_stays q i = elim (which s p y q) [
       | inl w ↦ let gone : IsSome {T = Attr} None = subst IsSome (ap (fin.get s) w.0 ∙ absent) i in cc
-      | inr w ↦ table_slot_same m s q (ap slot_of (ap (λ (n : Groups). fin.get n q) seen_now ∙ w.1))
+      | inr w ↦ row_at_same m s q (ap slot_of (ap (λ (n : Groups). fin.get n q) seen_now ∙ w.1))
     ]
 
-    unused : (q : Path) → IsSome (fin.get s q) → table_slot s q ≢ y.slot + 1
+    unused : (q : Path) → IsSome (fin.get s q) → row_at s q ≢ y.slot + 1
     unused [] i e = omega (arith, e)
     unused (n ∷ q) i e = free (n ∷ q) (omega arith) i (omega (arith, e))
 
@@ -97,7 +97,7 @@ module _ (tree : Groups) (rows : List Group) (r : HasRows tree (attrs_of rows)) 
     parent_there : IsSome (fin.get m (parent p))
     parent_there = (closed_rows new (attrs_of rows_now) closed).parents p (subst IsSome (sym own_there) refl)
 
-    above_now : above ≡ table_slot m (parent p)
+    above_now : above ≡ row_at m (parent p)
     above_now = is ∙ sym (slot_stays (parent p) there)
 
     pub made_row : length p ≤ 32 → IsRowOf new rows_now (parent p) above
@@ -107,16 +107,16 @@ module _ (tree : Groups) (rows : List Group) (r : HasRows tree (attrs_of rows)) 
     made_seen last attrs = ap (with_rows new) attrs ∙ seen_now
 
     module _ (few : fin.len s < 2 ^ 16) (counts : HasCounts (with_rows tree (attrs_of rows)) (belows_of rows)) where
-      others : (q : Path) → IsSome (fin.get s q) → get_or (belows_of rows_now) (table_slot m q) 0 ≡ descendant_count s q
+      others : (q : Path) → IsSome (fin.get s q) → get_or (belows_of rows_now) (row_at m q) 0 ≡ descendant_count s q
       others q i =
-          ap (λ (bs : List ℕ). get_or bs (table_slot m q) 0) belows_now ∙ ap (λ (n : ℕ). get_or (set (belows_of long) (y.slot + 1) 0) n 0) (slot_stays q i)
-          ∙ get_or-set_other (belows_of long) (y.slot + 1) (table_slot s q) 0 0 (unused q i) ∙ belows_kept rows long longer kept tree r s v q i ∙ counts_seen tree rows r s v h counts q i
+          ap (λ (bs : List ℕ). get_or bs (row_at m q) 0) belows_now ∙ ap (λ (n : ℕ). get_or (set (belows_of long) (y.slot + 1) 0) n 0) (slot_stays q i)
+          ∙ get_or-set_other (belows_of long) (y.slot + 1) (row_at s q) 0 0 (unused q i) ∙ belows_kept rows long longer kept tree r s v q i ∙ counts_seen tree rows r s v h counts q i
 
-      own : get_or (belows_of rows_now) (table_slot m p) 0 ≡ 0
+      own : get_or (belows_of rows_now) (row_at m p) 0 ≡ 0
       own =
-          let at : table_slot m p ≡ y.slot + 1 = omega (arith, own_slot m p named, ap slot_of own_there) in
-          ap (λ (bs : List ℕ). get_or bs (table_slot m p) 0) belows_now
-          ∙ get_or-set_at (belows_of long) (y.slot + 1) (table_slot m p) 0 0 at (omega (arith, inside, number, length-map long below_of))
+          let at : row_at m p ≡ y.slot + 1 = omega (arith, own_slot m p named, ap slot_of own_there) in
+          ap (λ (bs : List ℕ). get_or bs (row_at m p) 0) belows_now
+          ∙ get_or-set_at (belows_of long) (y.slot + 1) (row_at m p) 0 0 at (omega (arith, inside, number, length-map long below_of))
 
       pub made_table : (last : List Group) → attrs_of last ≡ attrs_of rows_now → ups_of last ≡ ups_of rows_now
           → ChangesCounts (below_after Raise) (with_rows new (attrs_of rows_now)) (parent p) (belows_of rows_now) (belows_of last)
@@ -153,8 +153,8 @@ module _ (tree : Groups) (rows : List Group) (r : HasRows tree (attrs_of rows)) 
         by true e = let none : IsSome {T = Attr} None = subst IsSome e i in cc
         by false e = e
 
-    same_slot : (q : Path) → IsSome (fin.get left q) → table_slot left q ≡ table_slot s q
-    same_slot q i = table_slot_same left s q (ap slot_of (was q i))
+    same_slot : (q : Path) → IsSome (fin.get left q) → row_at left q ≡ row_at s q
+    same_slot q i = row_at_same left s q (ap slot_of (was q i))
 
     own_before : fin.get s p ≡ Some (in_row (attrs_of rows) a)
     own_before = ap (λ (n : Groups). fin.get n p) (sym v) ∙ in_tree tree (attrs_of rows) p a here
@@ -168,8 +168,8 @@ module _ (tree : Groups) (rows : List Group) (r : HasRows tree (attrs_of rows)) 
     above_there : IsSome (fin.get left (parent p))
     above_there = subst IsSome (sym (removed (parent p) ∙ ap (λ b. cond b None (fin.get s (parent p))) apart)) (closed_seen.parents p (subst IsSome (sym own_before) refl))
 
-    module _ (up : ℕ) (is : up ≡ table_slot s (parent p)) where
-      up_now : up ≡ table_slot left (parent p)
+    module _ (up : ℕ) (is : up ≡ row_at s (parent p)) where
+      up_now : up ≡ row_at left (parent p)
       up_now = is ∙ sym (same_slot (parent p) above_there)
 
       pub left_row : length p ≤ 32 → IsRowOf new rows (parent p) up

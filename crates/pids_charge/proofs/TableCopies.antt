@@ -85,7 +85,7 @@ module _ {A : Type 0} (B : Type 0) (leaves : ℕ) where
   placed_below leaves2 tree (p ∷ ps) some h =
       let one = All-head (λ p. IsPlaced leaves2 tree p) p ps h in
       All-cons (λ p. IsPlaced leaves tree p) (at_leaf_below leaves p) (map (at_leaf_below leaves) ps)
-      (record { home = one.home; slot = one.slot; leaf_below = omega (arith, some) }) (placed_below leaves2 tree ps some (All-tail (λ p. IsPlaced leaves2 tree p) p ps h))
+      (record { home = one.home; row = one.row; leaf_below = omega (arith, some) }) (placed_below leaves2 tree ps some (All-tail (λ p. IsPlaced leaves2 tree p) p ps h))
 
   pub recounted : (leaves2 : ℕ) (tree : Groups) (es : List (Row A)) (content content2 : Content) (held held2 : ℕ) → Recounted leaves2 tree es content2 held2 → 1 ≤ leaves
       → ((s j : ℕ) → content s j ≡ sum_by (λ p. charges_at tree p.home (p.leaf % leaves) s j) (values_of es)) → held ≡ sum_by (λ p. length p.home) (values_of es)

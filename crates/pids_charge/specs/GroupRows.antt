@@ -5,7 +5,7 @@ use Rattle.flat_model.specs.Path.{Path, parent, at_or_below}
 use Rattle.flat_model.specs.Mapped.{map_values}
 use Rattle.group_tree.specs.Groups.{Groups, IsClosed, descendant_count}
 use Rattle.group_tree.specs.declared.attr.Attr.{Attr}
-use Rattle.pids_charge.specs.Lists.{table_slot}
+use Rattle.pids_charge.specs.Lists.{row_at}
 use Rattle.pids_charge.specs.declared.above.Change.{Change}
 use Rattle.pids_charge.specs.declared.above.Change.TheVariants.{Raise, Lower}
 use Rattle.pids_charge.specs.declared.group.Group.{Group}
@@ -28,10 +28,10 @@ in_row rows a = get_or rows a.slot a
 abbrev pub with_rows : Groups → List Attr → Groups
 with_rows tree rows = map_values (in_row rows) tree
 
--- the group at p, which the tree has with a, has a row: its number is the slot of the group's processes in their table
+-- the group at p, which the tree has with a, has a row
 pub record IsInRow (tree : Groups) (rows : List Attr) (p : Path) (a : Attr) : Type 0 where
   pub inside : a.slot < length rows
-  pub number : a.slot ≡ table_slot (with_rows tree rows) p
+  pub number : a.slot ≡ row_at (with_rows tree rows) p
 
 -- each group has a row, and no two groups have the same
 pub record HasRows (tree : Groups) (rows : List Attr) : Type 0 where
@@ -41,11 +41,11 @@ pub record HasRows (tree : Groups) (rows : List Attr) : Type 0 where
 
 -- the row of each group says which row its parent has
 abbrev pub HasParents : Groups → List ℕ → Type 0
-HasParents groups ups = (p : Path) → IsSome (fin.get groups p) → get_or ups (table_slot groups p) 0 ≡ table_slot groups (parent p)
+HasParents groups ups = (p : Path) → IsSome (fin.get groups p) → get_or ups (row_at groups p) 0 ≡ row_at groups (parent p)
 
 -- the row of each group says how many groups are strictly below it
 abbrev pub HasCounts : Groups → List ℕ → Type 0
-HasCounts groups belows = (p : Path) → IsSome (fin.get groups p) → get_or belows (table_slot groups p) 0 ≡ descendant_count groups p
+HasCounts groups belows = (p : Path) → IsSome (fin.get groups p) → get_or belows (row_at groups p) 0 ≡ descendant_count groups p
 
 -- a row that keeps a path is the row of that path in the tree
 abbrev pub KeepsPaths : Groups → List (Option Path) → Type 0
@@ -58,11 +58,11 @@ pub record HasTable (tree : Groups) (rows : List Group) (kept : List (Option Pat
   pub has_counts : HasCounts (with_rows tree (attrs_of rows)) (belows_of rows)
   pub keeps_paths : KeepsPaths tree kept
 
--- some group's processes are in this slot of their table
+-- it is the row of some group
 pub record IsOfGroup (groups : Groups) (at : ℕ) : Type 0 where
   pub path : Path
   pub there : IsSome (fin.get groups path)
-  pub here : at ≡ table_slot groups path
+  pub here : at ≡ row_at groups path
 
 -- ---- a group is made or removed
 
@@ -71,7 +71,7 @@ pub record IsRowOf (tree : Groups) (rows : List Group) (p : Path) (at : ℕ) : T
   pub has_rows : HasRows tree (attrs_of rows)
   pub has_parents : HasParents (with_rows tree (attrs_of rows)) (ups_of rows)
   pub there : IsSome (fin.get (with_rows tree (attrs_of rows)) p)
-  pub here : at ≡ table_slot (with_rows tree (attrs_of rows)) p
+  pub here : at ≡ row_at (with_rows tree (attrs_of rows)) p
   pub shallow : length p ≤ 32
 
 -- it is the row of some group of some tree
@@ -88,4 +88,4 @@ below_after Lower n = n - 1
 -- g is applied to the counts in the rows of the group at p and of each group above it, and those of all other groups stay
 abbrev pub ChangesCounts : (ℕ → ℕ) → Groups → Path → List ℕ → List ℕ → Type 0
 ChangesCounts g groups p old new = (q : Path) → IsSome (fin.get groups q)
-    → get_or new (table_slot groups q) 0 ≡ cond (at_or_below p q) (g (get_or old (table_slot groups q) 0)) (get_or old (table_slot groups q) 0)
+    → get_or new (row_at groups q) 0 ≡ cond (at_or_below p q) (g (get_or old (row_at groups q) 0)) (get_or old (row_at groups q) 0)

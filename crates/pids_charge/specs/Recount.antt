@@ -13,7 +13,7 @@ use Rattle.group_tree.specs.Flat.{group_of}
 use Rattle.flat_model.specs.Mapped.{map_values}
 use Rattle.snzi_tokens.specs.Listed.{one_at}
 use Rattle.pids_charge.specs.Content.{Content}
-use Rattle.pids_charge.specs.Lists.{Row, slot_at, table_slot}
+use Rattle.pids_charge.specs.Lists.{Row, slot_at, row_at}
 use Rattle.process_table.specs.declared.process.Process.{Process}
 
 -- one charge at the leaf for the group of each prefix of 1 to n names
@@ -70,10 +70,10 @@ module _ {A : Type 0} where
   abbrev pub state_of : Groups → List (Row A) → State
   state_of tree es = record { groups = map_values group_of tree; home = fin.from_sorted (map (λ e. (e.0, e.1.home)) es) }
 
-  -- the process is in a group of the tree, and in the slot of that group
+  -- the process is in a group of the tree, and in the row of that group
   pub record IsPlaced (leaves : ℕ) (tree : Groups) (p : Process A) : Type 0 where
     pub home : IsSome (fin.get tree p.home)
-    pub slot : p.slot ≡ table_slot tree p.home
+    pub row : p.row ≡ row_at tree p.home
     pub leaf_below : p.leaf < leaves
 
   -- each process is in a group, and the meter holds each process's charges

@@ -73,7 +73,7 @@ impl<A: Allocator + Clone, M: Meter + Drop> Charges<A, M> {
         let mut processes = ProcessTable::new(alloc.clone()?)?;
         let first = Process {
             home,
-            slot: 0,
+            row: 0,
             leaf: 0,
         };
         let _ = put_row(&mut processes, Pid::first(), first)?;

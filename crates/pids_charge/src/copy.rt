@@ -7,8 +7,9 @@ ghost use Rattle.std.specs.Ordering.{nat_cmp};
 ghost use Rattle.std.specs.BTreeMap.{insert_entry, is_at};
 ghost use Rattle.std.specs.FinMap as fin;
 ghost use Rattle.std.specs.Vec.{vec_capacity};
+ghost use Rattle.flat_model.specs.Path.{Path};
 ghost use Rattle.process_table.specs.Chosen.{HaveOneHome};
-ghost use Rattle.pids_charge.specs.Lists.{at_leaf_below, row_below, table_slot};
+ghost use Rattle.pids_charge.specs.Lists.{at_leaf_below, row_below, row_at};
 ghost use Rattle.pids_charge.specs.Recount.{charges_at, SlotsBelow};
 
 use crate::charges::Charges;
@@ -45,18 +46,20 @@ fn copy_one<T: Allocator + Clone, M: Meter, A: Allocator + Clone, B: Allocator +
     process: &Process<A>,
 ) -> Result<(), AllocError>
     requires home { IsSome (fin.get tree.now process.now.home) }
-    requires slot { process.now.slot ≡ table_slot tree.now process.now.home }
+    requires row { process.now.row ≡ row_at tree.now process.now.home }
+    requires shallow { (p : Path) → IsSome (fin.get tree.now p) → length p ≤ 32 }
     requires slots { SlotsBelow M.SLOTS tree.now }
     requires room { M.held meter.old + length process.now.home ≤ HELD_MAX }
     ensures put { OnOk result (table.new ≡ insert_entry nat_cmp table.old pid (at_leaf_below M.LEAVES process.now)) }
     ensures content { OnOk result ((s j : ℕ) → M.content meter.new s j ≡ M.content meter.old s j + charges_at tree.now process.now.home (process.now.leaf % M.LEAVES) s j) }
     ensures held { OnOk result (M.held meter.new ≡ M.held meter.old + length process.now.home) }
 {
+    tree.known();
     let leaf = process.leaf % M::LEAVES;
-    let slot = process.slot;
-    let home = home_in(table, &alloc, &process.home, slot)?;
-    charge_up(tree, meter, &process.home, slot, leaf);
-    let _ = table.insert(pid, Process { home, slot, leaf })?;
+    let row = process.row;
+    let home = home_in(table, &alloc, &process.home, row)?;
+    charge_up(tree, meter, row, leaf);
+    let _ = table.insert(pid, Process { home, row, leaf })?;
     Ok(())
 }
 
@@ -68,7 +71,8 @@ fn copy_each<T: Allocator + Clone, M: Meter, A: Allocator + Clone, B: Allocator 
     alloc: B,
 ) -> Result<ProcessTable<B>, AllocError>
     requires one { HaveOneHome (λ q. lookup (is_at (nat_cmp q)) processes.now) }
-    requires homes { All (λ p. IsSome (fin.get tree.now p.home) × (p.slot ≡ table_slot tree.now p.home)) (values_of processes.now) }
+    requires homes { All (λ p. IsSome (fin.get tree.now p.home) × (p.row ≡ row_at tree.now p.home)) (values_of processes.now) }
+    requires shallow { (p : Path) → IsSome (fin.get tree.now p) → length p ≤ 32 }
     requires slots { SlotsBelow M.SLOTS tree.now }
     requires room { M.held meter.old + sum_by (λ p. length p.home) (values_of processes.now) ≤ HELD_MAX }
     ensures rows { IfOk result (λ table. table ≡ map (row_below M.LEAVES) processes.now) }

@@ -12,8 +12,8 @@ use crate::charges::Charges;
 use crate::fault::ChargeFault;
 use crate::meter::Meter;
 use crate::pid::Pid;
+use crate::row::row_in;
 use crate::rows::{has_row, put_copy, take_row};
-use crate::slot::slot_in;
 use crate::walk::{charge_up, uncharge_up};
 use group_path::GroupPath;
 use std::alloc::{AllocError, Allocator};
@@ -70,10 +70,10 @@ impl<A: Allocator + Clone, M: Meter> Charges<A, M> {
     {
         self.tree.known();
         path.known();
-        let slot = slot_in(&self.tree, path);
+        let row = row_in(&self.tree, path);
         let leaf = who % M::LEAVES;
-        let _ = put_copy(&mut self.processes, &self.alloc, pid, path, slot, leaf)?;
-        charge_up(&self.tree, &mut self.meter, path, slot, leaf);
+        let _ = put_copy(&mut self.processes, &self.alloc, pid, path, row, leaf)?;
+        charge_up(&self.tree, &mut self.meter, row, leaf);
         Ok(())
     }
 }

@@ -26,8 +26,8 @@ use crate::meter::Meter;
 use crate::notes::{nearest_full, note_up};
 use crate::peaks::{Peaks, charge_noted, set_list_up};
 use crate::pid::Pid;
+use crate::row::row_in;
 use crate::rows::{find_row, has_row, put_row, take_row};
-use crate::slot::slot_in;
 use crate::walk::uncharge_up;
 use group_path::GroupPath;
 use process_table::{Process, ProcessTable};
@@ -73,11 +73,11 @@ fn find_parent<A: Allocator + Clone>(
 
 // A process in the group of another one, and charged at this leaf. They share the text of a long path.
 fn beside<A: Allocator + Clone>(from: &Process<A>, leaf: u8) -> Result<Process<A>, AllocError>
-    ensures { IfOk result (λ process. process ≡ process_in from.now.home from.now.slot leaf) }
+    ensures { IfOk result (λ process. process ≡ process_in from.now.home from.now.row leaf) }
 {
     let home = from.home.share()?;
-    let slot = from.slot;
-    Ok(Process { home, slot, leaf })
+    let row = from.row;
+    Ok(Process { home, row, leaf })
 }
 
 // All memory for a process: its row of the table, and a list of the old peaks.
@@ -118,7 +118,7 @@ impl<A: Allocator + Clone, M: Meter> Charges<A, M> {
             Err(fault) => return Some(fault),
         };
         self.tree.known();
-        if let Some(full) = nearest_full(&self.tree, &mut self.meter, &process.home, process.slot) {
+        if let Some(full) = nearest_full(&self.tree, &mut self.meter, &process.home, process.row) {
             return Some(ChargeFault::PidsMax(full.names));
         }
         None
@@ -159,29 +159,24 @@ impl<A: Allocator + Clone, M: Meter> Charges<A, M> {
         requires { IsTrue can_count → HasRoomForEvents self.old }
         ensures forked { IfOk result (λ forked. ForksTo M.SLOTS self.old parent child forked self.new) }
         ensures first { IfErr result (λ f. f ≢ ChargeFault.OutOfMemory → refusal M.SLOTS self.old (Fork parent child) ≡ refusal_of_fault (home_of self.old parent) f) }
+        ensures ready { IfErr result (λ f. f ≡ ChargeFault.OutOfMemory → (has_process self.old parent ≡ true) × (has_process self.old child ≡ false)) }
         ensures no_limit { IfErr result (λ f. (n : ℕ) → f ≢ ChargeFault.PidsMax n) }
         ensures kept { OnErr result (self.new ≡ self.old) }
     {
         self.tree.known();
         let from = find_parent(&self.processes, parent, child)?;
-        let row = from.slot;
+        let row = from.row;
         if let Some(full) = nearest_full(&self.tree, &mut self.meter, &from.home, row) {
             if !can_count {
                 return Err(ChargeFault::OutOfMemory);
             }
             let path = from.home.front(self.alloc.clone()?, full.names)?;
             let shared = path.share()?;
-            change_totals(
-                &mut self.tree,
-                &from.home,
-                full.names,
-                full.row,
-                Change::Raise,
-            );
+            change_totals(&mut self.tree, full.row, Change::Raise);
             self.tree.known();
             return Ok(ForkOutcome::Counted { path, shared });
         }
-        let notes = note_up(&self.tree, &from.home, row);
+        let notes = note_up(&self.tree, row);
         let leaf = who % M::LEAVES;
         let process = beside(from, leaf)?;
         let peaks = admit(
@@ -209,7 +204,7 @@ impl<A: Allocator + Clone, M: Meter> Charges<A, M> {
         let stripe = who % M::LEAVES;
         uncharge_up(&self.tree, &mut self.meter, &process, stripe);
         process.home.known();
-        set_list_up(&mut self.tree, process.slot, peaks);
+        set_list_up(&mut self.tree, process.row, peaks);
         self.tree.known();
     }
 
@@ -220,8 +215,8 @@ impl<A: Allocator + Clone, M: Meter> Charges<A, M> {
         requires { HasEvents self.old path.now }
         ensures { self.new ≡ back (Counted path.now) self.old }
     {
-        let at = slot_in(&self.tree, path);
-        change_totals(&mut self.tree, path, path.depth(), at, Change::Lower);
+        let at = row_in(&self.tree, path);
+        change_totals(&mut self.tree, at, Change::Lower);
         self.tree.known();
     }
 }

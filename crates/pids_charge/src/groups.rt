@@ -10,7 +10,7 @@ ghost use Rattle.group_tree.specs.Groups.{Groups, IsClosed, Removes, only_root, 
 ghost use Rattle.group_tree.specs.declared.attr.Attr.{Attr};
 ghost use Rattle.pids_charge.specs.declared.group.Group.{Group};
 ghost use Rattle.pids_charge.specs.GroupRows.{ChangesCounts, IsOfGroup, IsRow, IsRowOf, attrs_of, below_after, belows_of, ups_of, with_rows};
-ghost use Rattle.pids_charge.specs.Lists.{slot_at, table_slot};
+ghost use Rattle.pids_charge.specs.Lists.{slot_at, row_at};
 
 use crate::above::Change;
 use crate::group::Group;
@@ -56,8 +56,8 @@ fn change_below<A: Allocator>(rows: &mut Vec<Group, A>, first: u16, change: Chan
 }
 
 // The groups, seen as a finite map from paths to attributes, as a `GroupTree` is. The attributes are in rows. The number of
-// a group's row is the slot of its processes in their table: 0 for the root, and one more than its slot in the meter for
-// any other group. The tree has that number in place of the slot, and its other attributes say nothing. So whoever knows a
+// a group's row is 0 for the root, and one more than its slot in the meter for any other group. The table of processes
+// has the same rows. The tree has that number in place of the slot, and its other attributes say nothing. So whoever knows a
 // group's row reads and changes it without a descent. There are as many rows as the greatest number needs. A row has the row
 // of its group's parent, so a walk up goes from row to row. A row counts the groups below its group. A row keeps the path of
 // its group, and the path has a hint (`hints.rt`), by which it is found first.
@@ -87,7 +87,7 @@ impl<A: Allocator + Clone> GroupTable<A> {
     pub(crate) fn known(&self)
         ensures closed { IsClosed self.now }
         ensures prefixes { (p q : Path) → IsSome (fin.get self.now p) → at_or_below p q ≡ true → IsSome (fin.get self.now q) }
-        ensures apart { (p q : Path) → IsSome (fin.get self.now p) → IsSome (fin.get self.now q) → table_slot self.now p ≡ table_slot self.now q → p ≡ q }
+        ensures apart { (p q : Path) → IsSome (fin.get self.now p) → IsSome (fin.get self.now q) → row_at self.now p ≡ row_at self.now q → p ≡ q }
         ensures flat { CountsAsFlat self.now }
     {
         self.tree.known();
@@ -105,7 +105,7 @@ impl<A: Allocator + Clone> GroupTable<A> {
 
     // The row of the group at the path. Costs one descent, unless there is a hint.
     pub(crate) fn find_row<B: Allocator + Clone>(&self, path: &GroupPath<B>) -> Option<u16>
-        ensures { MatchOption result (fin.get self.now path.now ≡ None) (λ at. IsSome (fin.get self.now path.now) × (at ≡ table_slot self.now path.now)) }
+        ensures { MatchOption result (fin.get self.now path.now ≡ None) (λ at. IsSome (fin.get self.now path.now) × (at ≡ row_at self.now path.now)) }
     {
         if let Some(row) = self.kept.hinted(path) {
             return Some(row);
@@ -123,7 +123,7 @@ impl<A: Allocator + Clone> GroupTable<A> {
         n: usize,
     ) -> Option<u16>
         requires { n ≤ length path.now }
-        ensures { MatchOption result (fin.get self.now (take n path.now) ≡ None) (λ at. IsSome (fin.get self.now (take n path.now)) × (at ≡ table_slot self.now (take n path.now))) }
+        ensures { MatchOption result (fin.get self.now (take n path.now) ≡ None) (λ at. IsSome (fin.get self.now (take n path.now)) × (at ≡ row_at self.now (take n path.now))) }
     {
         match self.tree.find_at(path, n) {
             Some(found) => Some(found.slot),
@@ -134,7 +134,7 @@ impl<A: Allocator + Clone> GroupTable<A> {
     // The attributes in a row.
     pub(crate) fn row(&self, at: u16) -> &Attr
         requires { IsOfGroup self.now at }
-        ensures { (p : Path) → IsSome (fin.get self.now p) → at ≡ table_slot self.now p → Some result.now ≡ fin.get self.now p }
+        ensures { (p : Path) → IsSome (fin.get self.now p) → at ≡ row_at self.now p → Some result.now ≡ fin.get self.now p }
     {
         &self.rows[usize::from(at)].attr
     }
@@ -142,7 +142,7 @@ impl<A: Allocator + Clone> GroupTable<A> {
     // The row of the parent of the group in a row. The root's is its own.
     pub(crate) fn up(&self, at: u16) -> u16
         requires { IsOfGroup self.now at }
-        ensures { (p : Path) → IsSome (fin.get self.now p) → at ≡ table_slot self.now p → result ≡ table_slot self.now (parent p) }
+        ensures { (p : Path) → IsSome (fin.get self.now p) → at ≡ row_at self.now p → result ≡ row_at self.now (parent p) }
     {
         self.rows[usize::from(at)].up
     }
@@ -150,15 +150,15 @@ impl<A: Allocator + Clone> GroupTable<A> {
     // Replaces the attributes in a row by others with the same slot.
     pub(crate) fn put(&mut self, at: u16, attr: Attr)
         requires group { IsOfGroup self.old at }
-        requires same { (p : Path) (a : Attr) → fin.get self.old p ≡ Some a → at ≡ table_slot self.old p → attr.slot ≡ a.slot }
-        ensures { (p : Path) → IsSome (fin.get self.old p) → at ≡ table_slot self.old p → self.new ≡ fin.insert self.old p attr }
+        requires same { (p : Path) (a : Attr) → fin.get self.old p ≡ Some a → at ≡ row_at self.old p → attr.slot ≡ a.slot }
+        ensures { (p : Path) → IsSome (fin.get self.old p) → at ≡ row_at self.old p → self.new ≡ fin.insert self.old p attr }
     {
         self.rows[usize::from(at)].attr = attr;
     }
 
     // How many rows there are. Each group has one.
     pub(crate) fn rows(&self) -> usize
-        ensures { (p : Path) → IsSome (fin.get self.now p) → table_slot self.now p < result }
+        ensures { (p : Path) → IsSome (fin.get self.now p) → row_at self.now p < result }
     {
         self.rows.len()
     }
@@ -186,7 +186,7 @@ impl<A: Allocator + Clone> GroupTable<A> {
     // How many groups are strictly below the group in a row.
     pub(crate) fn below(&self, at: u16) -> u64
         requires { IsOfGroup self.now at }
-        ensures { (p : Path) → IsSome (fin.get self.now p) → at ≡ table_slot self.now p → result ≡ descendant_count self.now p }
+        ensures { (p : Path) → IsSome (fin.get self.now p) → at ≡ row_at self.now p → result ≡ descendant_count self.now p }
     {
         u64::from(self.rows[usize::from(at)].below)
     }
@@ -257,7 +257,7 @@ impl<A: Allocator + Clone> GroupTable<A> {
         requires below_root { 0 < length path.now }
         requires absent { fin.get self.old path.now ≡ None }
         requires parent { IsSome (fin.get self.old (parent path.now)) }
-        requires above { above ≡ table_slot self.old (parent path.now) }
+        requires above { above ≡ row_at self.old (parent path.now) }
         requires free { (q : Path) → 0 < length q → IsSome (fin.get self.old q) → slot_at self.old q ≢ attr.slot }
         ensures made { OnOk result (self.new ≡ fin.insert self.old path.now attr) }
         ensures kept { OnErr result (self.new ≡ self.old) }

@@ -1,6 +1,6 @@
 //! Limits of the hierarchy: which of them a new group meets first, from row to row.
 
-ghost use Rattle.std.specs.Prelude.{◌≡◌, ◌+◌, length, IsSome};
+ghost use Rattle.std.specs.Prelude.{◌≡◌, ◌+◌, ◌≤◌, length, IsSome};
 ghost use Rattle.std.specs.FinMap as fin;
 ghost use Rattle.flat_model.specs.Counts.{reaches};
 ghost use Rattle.flat_model.specs.Path.{Path, parent};
@@ -8,10 +8,9 @@ ghost use Rattle.group_tree.specs.Flat.{limit_of};
 ghost use Rattle.group_tree.specs.Groups.{descendant_count};
 ghost use Rattle.pids_charge.specs.GroupRows.{IsOfGroup};
 ghost use Rattle.pids_charge.specs.HierarchyLimits.{IsFirstMet, met_here};
-ghost use Rattle.pids_charge.specs.Lists.{table_slot};
+ghost use Rattle.pids_charge.specs.Lists.{row_at};
 
 use crate::groups::GroupTable;
-use group_path::GroupPath;
 use group_tree::Limit;
 use std::alloc::Allocator;
 
@@ -45,7 +44,7 @@ fn met_in<T: Allocator + Clone>(
     n: usize,
 ) -> Option<MetLimit>
     requires { IsOfGroup tree.now at }
-    ensures { (p : Path) → IsSome (fin.get tree.now p) → at ≡ table_slot tree.now p → result ≡ met_here (fin.get tree.now p) (descendant_count tree.now p) levels n }
+    ensures { (p : Path) → IsSome (fin.get tree.now p) → at ≡ row_at tree.now p → result ≡ met_here (fin.get tree.now p) (descendant_count tree.now p) levels n }
 {
     let limits = tree.row(at).limits;
     if is_reached(limits.descendants, tree.below(at)) {
@@ -57,20 +56,17 @@ fn met_in<T: Allocator + Clone>(
     None
 }
 
-// The first limit that a new group at the path meets, from its parent, which has `n` names and the row `above`, up to the root.
-pub(crate) fn first_met<T: Allocator + Clone, A: Allocator + Clone>(
+// The first limit that a new group meets, from its parent, which has `n` names and is in the row `above`, up to the root.
+pub(crate) fn first_met<T: Allocator + Clone>(
     tree: &GroupTable<T>,
-    path: &GroupPath<A>,
-    n: usize,
     above: u16,
+    n: usize,
 ) -> Option<MetLimit>
-    requires names { length path.now ≡ n + 1 }
-    requires parent { IsSome (fin.get tree.now (parent path.now)) }
-    requires above { above ≡ table_slot tree.now (parent path.now) }
-    ensures { IsFirstMet tree.now path.now result }
+    requires parent { IsOfGroup tree.now above }
+    requires shallow { n ≤ 32 }
+    ensures { (p : Path) → length p ≡ n + 1 → IsSome (fin.get tree.now (parent p)) → above ≡ row_at tree.now (parent p) → IsFirstMet tree.now p result }
 {
     tree.known();
-    path.known();
     let mut at = above;
     for levels in 0..n + 1 {
         if let Some(met) = met_in(tree, at, levels, n - levels) {

@@ -8,7 +8,7 @@ ghost use Rattle.std.specs.Map.{keys_of, lookup, values_of};
 ghost use Rattle.std.specs.Ordering.{nat_cmp};
 ghost use Rattle.flat_model.specs.Path.{Path};
 ghost use Rattle.process_table.specs.Chosen.{chosen_at};
-ghost use Rattle.pids_charge.specs.Lists.{inside, table_slot};
+ghost use Rattle.pids_charge.specs.Lists.{inside, row_at};
 ghost use Rattle.pids_charge.specs.Recount.{IsPlaced, SlotsBelow};
 
 use crate::groups::GroupTable;
@@ -27,7 +27,7 @@ fn append_row<M: Meter, T: Allocator + Clone, A: Allocator + Clone, B: Allocator
 ) -> Result<(), AllocError>
     requires shallow { (p : Path) → IsSome (fin.get tree.now p) → length p ≤ 32 }
     requires placed { All (λ x. IsPlaced M.LEAVES tree.now x) (values_of processes.now) }
-    ensures { OnOk result ((p : Path) → IsSome (fin.get tree.now p) → top ≡ table_slot tree.now p → (q : ℕ) → count_by (eqb q) pids.new.items ≡ count_by (eqb q) pids.old.items + chosen_at at p (lookup (is_at (nat_cmp q)) processes.now)) }
+    ensures { OnOk result ((p : Path) → IsSome (fin.get tree.now p) → top ≡ row_at tree.now p → (q : ℕ) → count_by (eqb q) pids.new.items ≡ count_by (eqb q) pids.old.items + chosen_at at p (lookup (is_at (nat_cmp q)) processes.now)) }
 {
     let own = processes.unordered(at);
     if own.is_empty() {
@@ -50,7 +50,7 @@ pub(crate) fn pids_inside<M: Meter, T: Allocator + Clone, A: Allocator + Clone, 
     requires slots { SlotsBelow M.SLOTS tree.now }
     requires shallow { (p : Path) → IsSome (fin.get tree.now p) → length p ≤ 32 }
     requires placed { All (λ x. IsPlaced M.LEAVES tree.now x) (values_of processes.now) }
-    ensures { IfOk result (λ pids. (p : Path) → IsSome (fin.get tree.now p) → top ≡ table_slot tree.now p → pids.items ≡ keys_of (inside p processes.now)) }
+    ensures { IfOk result (λ pids. (p : Path) → IsSome (fin.get tree.now p) → top ≡ row_at tree.now p → pids.items ≡ keys_of (inside p processes.now)) }
 {
     processes.known();
     let rows = tree.rows().min(usize::from(M::SLOTS) + 1);

@@ -70,7 +70,7 @@ fn gather<M: Meter, T: Allocator + Clone, A: Allocator + Clone, B: Allocator + C
         let Some(process) = processes.get(*pid) else {
             unreachable!()
         };
-        push_up::<M, _, _, _>(tree, &process.home, process.slot, process.leaf, &mut tokens)?;
+        push_up::<M, _, _>(tree, process.row, process.leaf, &mut tokens)?;
     }
     Ok(Gathered { pids, tokens, room })
 }

@@ -79,9 +79,9 @@ mod place;
 mod plain;
 mod readers;
 mod rmdir;
+mod row;
 mod rows;
 mod settler;
-mod slot;
 mod specified;
 mod walk;
 

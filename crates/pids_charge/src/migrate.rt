@@ -8,7 +8,7 @@ ghost use Rattle.flat_model.specs.Inverse.{back, Moved};
 ghost use Rattle.flat_model.specs.State.{State};
 ghost use Rattle.flat_model.specs.Step.{home_of, peaks_upward, refusal};
 ghost use Rattle.pids_charge.specs.Answers.{Does, refusal_of_fault, after_fault, names_in};
-ghost use Rattle.pids_charge.specs.Lists.{table_slot};
+ghost use Rattle.pids_charge.specs.Lists.{row_at};
 ghost use Rattle.pids_charge.specs.Recount.{state_of};
 
 use crate::charges::Charges;
@@ -18,8 +18,8 @@ use crate::meter::Meter;
 use crate::notes::note_up;
 use crate::peaks::{Peaks, charge_noted, set_list_up};
 use crate::pid::Pid;
+use crate::row::row_in;
 use crate::rows::{has_row, put_copy, put_shared};
-use crate::slot::slot_in;
 use crate::walk::{charge_up, uncharge_up};
 use group_path::GroupPath;
 use process_table::ProcessTable;
@@ -41,28 +41,28 @@ pub struct Migrated<A: Allocator + Clone> {
     pub left: Shifted<A>,
 }
 
-// The slot of the group in the table of processes, if the process may move there. Else the refusal.
-fn slot_for<M: Meter, T: Allocator + Clone, A: Allocator + Clone, B: Allocator + Clone>(
+// The row of the group, if the process may move there. Else the refusal.
+fn row_for<M: Meter, T: Allocator + Clone, A: Allocator + Clone, B: Allocator + Clone>(
     tree: &GroupTable<T>,
     processes: &ProcessTable<A>,
     path: &GroupPath<B>,
     pid: Pid,
 ) -> Result<u16, ChargeFault>
     ensures allowed { OnOk result (refusal M.SLOTS (state_of tree.now processes.now) (Move path.now pid) ≡ None) }
-    ensures slot { IfOk result (λ slot. IsSome (fin.get tree.now path.now) × (slot ≡ table_slot tree.now path.now)) }
+    ensures row { IfOk result (λ row. IsSome (fin.get tree.now path.now) × (row ≡ row_at tree.now path.now)) }
     ensures first { IfErr result (λ f. refusal M.SLOTS (state_of tree.now processes.now) (Move path.now pid) ≡ refusal_of_fault path.now f) }
     ensures inside { IfErr result (λ f. names_in f ≤ length path.now) }
     ensures no_memory { IfErr result (λ f. f ≢ ChargeFault.OutOfMemory) }
     ensures kept { IfErr result (λ f. (s : State) → after_fault s (refusal_of_fault path.now f) ≡ s) }
 {
     processes.known();
-    let Some(slot) = tree.find_row(path) else {
+    let Some(row) = tree.find_row(path) else {
         return Err(ChargeFault::NoGroup(path.depth()));
     };
     if !has_row(processes, pid) {
         return Err(ChargeFault::NoProcess(pid));
     }
-    Ok(slot)
+    Ok(row)
 }
 
 impl<A: Allocator + Clone, M: Meter> Charges<A, M> {
@@ -77,7 +77,7 @@ impl<A: Allocator + Clone, M: Meter> Charges<A, M> {
         ensures no_memory { IfSome result (λ f. f ≢ ChargeFault.OutOfMemory) }
         ensures kept { IfSome result (λ f. after_fault self.now (refusal_of_fault path.now f) ≡ self.now) }
     {
-        match slot_for::<M, _, _, _>(&self.tree, &self.processes, path, pid) {
+        match row_for::<M, _, _, _>(&self.tree, &self.processes, path, pid) {
             Ok(_) => None,
             Err(fault) => Some(fault),
         }
@@ -103,18 +103,18 @@ impl<A: Allocator + Clone, M: Meter> Charges<A, M> {
         ensures peaks { IfOk result (λ moved. moved.left.peaks ≡ peaks_upward self.old path.now) }
         ensures kept { OnErr result (self.new ≡ self.old) }
     {
-        let slot = slot_for::<M, _, _, _>(&self.tree, &self.processes, path, pid)?;
-        let notes = note_up(&self.tree, path, slot);
+        let row = row_for::<M, _, _, _>(&self.tree, &self.processes, path, pid)?;
+        let notes = note_up(&self.tree, row);
         let peaks = Peaks::copy_of(&self.alloc, notes.peaks())?;
         self.tree.known();
         path.known();
         let leaf = who % M::LEAVES;
-        let (to, replaced) = put_shared(&mut self.processes, &self.alloc, pid, path, slot, leaf)?;
+        let (to, replaced) = put_shared(&mut self.processes, &self.alloc, pid, path, row, leaf)?;
         let Some(before) = replaced else {
             unreachable!()
         };
         uncharge_up(&self.tree, &mut self.meter, &before, leaf);
-        charge_noted(&mut self.tree, &mut self.meter, slot, leaf, &notes);
+        charge_noted(&mut self.tree, &mut self.meter, row, leaf, &notes);
         let left = Shifted {
             path: before.home,
             peaks,
@@ -144,15 +144,15 @@ impl<A: Allocator + Clone, M: Meter> Charges<A, M> {
     {
         self.tree.known();
         path.known();
-        let slot = slot_in(&self.tree, path);
+        let row = row_in(&self.tree, path);
         let leaf = who % M::LEAVES;
-        let replaced = put_copy(&mut self.processes, &self.alloc, pid, path, slot, leaf)?;
+        let replaced = put_copy(&mut self.processes, &self.alloc, pid, path, row, leaf)?;
         let Some(before) = replaced else {
             unreachable!()
         };
         uncharge_up(&self.tree, &mut self.meter, &before, leaf);
-        charge_up(&self.tree, &mut self.meter, path, slot, leaf);
-        set_list_up(&mut self.tree, before.slot, peaks);
+        charge_up(&self.tree, &mut self.meter, row, leaf);
+        set_list_up(&mut self.tree, before.row, peaks);
         self.tree.known();
         Ok(())
     }

@@ -30,7 +30,7 @@ impl<A: Allocator + Clone, M: Meter> Charges<A, M> {
         let Some(above) = self.tree.find_row_at(path, n) else {
             return Some(ChargeFault::NoGroup(n));
         };
-        match first_met(&self.tree, path, n, above) {
+        match first_met(&self.tree, above, n) {
             Some(MetLimit::Descendants(n)) => Some(ChargeFault::Descendants(n)),
             Some(MetLimit::Depth(n)) => Some(ChargeFault::Depth(n)),
             None if self.free.is_empty() => Some(ChargeFault::NoSlot),

@@ -2,8 +2,10 @@
 
 ghost use Rattle.std.specs.Prelude.{◌≡◌, ◌<◌, ◌≤◌, ◌++◌, ◌∷◌, [], length, option_map, take, IfSome, IsSome, Some};
 ghost use Rattle.std.specs.FinMap as fin;
+ghost use Rattle.flat_model.specs.Path.{Path};
 ghost use Rattle.pids_charge.specs.Events.{full_by, longest};
-ghost use Rattle.pids_charge.specs.Lists.{table_slot};
+ghost use Rattle.pids_charge.specs.GroupRows.{IsOfGroup};
+ghost use Rattle.pids_charge.specs.Lists.{row_at};
 ghost use Rattle.pids_charge.specs.Peaks.{IsNoted, Noted};
 ghost use Rattle.pids_charge.specs.Recount.{SlotsBelow};
 
@@ -94,26 +96,26 @@ pub(crate) struct FullGroup {
     pub(crate) row: u16,
 }
 
-// The nearest group, from the path's upward, whose `pids.max` one more process would exceed. `slot` is the row of the path's
+// The nearest group, from the path's upward, whose `pids.max` one more process would exceed. `row` is that of the path's
 // group. Does not descend the tree.
 pub(crate) fn nearest_full<T: Allocator + Clone, M: Meter, A: Allocator + Clone>(
     tree: &GroupTable<T>,
     meter: &mut M,
     path: &GroupPath<A>,
-    slot: u16,
+    row: u16,
 ) -> Option<FullGroup>
     requires home { IsSome (fin.get tree.now path.now) }
-    requires slot { slot ≡ table_slot tree.now path.now }
+    requires row { row ≡ row_at tree.now path.now }
     requires slots { SlotsBelow M.SLOTS tree.now }
     ensures answer { option_map (λ full. full.names) result ≡ longest (λ a. full_by M.LEAVES (M.content meter.old) (fin.get tree.now a)) path.now (length path.now) }
-    ensures row { IfSome result (λ full. full.row ≡ table_slot tree.now (take full.names path.now)) }
+    ensures row { IfSome result (λ full. full.row ≡ row_at tree.now (take full.names path.now)) }
     ensures inside { IfSome result (λ full. (0 < full.names) × (full.names ≤ length path.now)) }
     ensures content { M.content meter.new ≡ M.content meter.old }
     ensures held { M.held meter.new ≡ M.held meter.old }
 {
     tree.known();
     path.known();
-    let mut at = slot;
+    let mut at = row;
     for up in 0..DEPTH_MAX {
         if at == 0 {
             break;
@@ -127,20 +129,15 @@ pub(crate) fn nearest_full<T: Allocator + Clone, M: Meter, A: Allocator + Clone>
     None
 }
 
-// Notes the group of a path and those above it, without the root. Does not descend the tree.
-pub(crate) fn note_up<T: Allocator + Clone, A: Allocator + Clone>(
-    tree: &GroupTable<T>,
-    path: &GroupPath<A>,
-    slot: u16,
-) -> Notes
-    requires home { IsSome (fin.get tree.now path.now) }
-    requires slot { slot ≡ table_slot tree.now path.now }
-    ensures { IsNoted tree.now path.now result }
+// Notes the group in a row and those above it, without the root. Does not descend the tree.
+pub(crate) fn note_up<T: Allocator + Clone>(tree: &GroupTable<T>, row: u16) -> Notes
+    requires group { IsOfGroup tree.now row }
+    requires shallow { (p : Path) → IsSome (fin.get tree.now p) → length p ≤ 32 }
+    ensures { (p : Path) → IsSome (fin.get tree.now p) → row ≡ row_at tree.now p → IsNoted tree.now p result }
 {
     tree.known();
-    path.known();
     let mut notes = Notes::new();
-    let mut at = slot;
+    let mut at = row;
     for _up in 0..DEPTH_MAX {
         if at == 0 {
             break;

@@ -7,7 +7,7 @@ ghost use Rattle.flat_model.specs.Path.{Path};
 ghost use Rattle.snzi_tokens.specs.Listed.{one_at, over_leaves};
 ghost use Rattle.pids_charge.specs.Peaks.{peak_of, raised_by, AreUpward, IsNoted, SetsPeaks};
 ghost use Rattle.pids_charge.specs.GroupRows.{IsOfGroup};
-ghost use Rattle.pids_charge.specs.Lists.{table_slot};
+ghost use Rattle.pids_charge.specs.Lists.{row_at};
 ghost use Rattle.pids_charge.specs.Recount.{SlotsBelow, SameSlots, with_charges};
 
 use crate::above::set_peaks_up;
@@ -228,9 +228,9 @@ fn raise_along<T: Allocator + Clone>(
     reached: &[u64],
 )
     requires group { IsOfGroup tree.old row }
-    requires noted { (p : Path) → IsSome (fin.get tree.old p) → row ≡ table_slot tree.old p → AreUpward peak_of tree.old p peaks.now }
-    requires many { (p : Path) → IsSome (fin.get tree.old p) → row ≡ table_slot tree.old p → length reached.now ≡ length p }
-    ensures set { (p : Path) → IsSome (fin.get tree.old p) → row ≡ table_slot tree.old p → SetsPeaks tree.old tree.new p reached.now }
+    requires noted { (p : Path) → IsSome (fin.get tree.old p) → row ≡ row_at tree.old p → AreUpward peak_of tree.old p peaks.now }
+    requires many { (p : Path) → IsSome (fin.get tree.old p) → row ≡ row_at tree.old p → length reached.now ≡ length p }
+    ensures set { (p : Path) → IsSome (fin.get tree.old p) → row ≡ row_at tree.old p → SetsPeaks tree.old tree.new p reached.now }
     ensures slots { SameSlots tree.old tree.new }
 {
     tree.known();
@@ -252,12 +252,12 @@ pub(crate) fn charge_noted<T: Allocator + Clone, M: Meter>(
 )
     requires leaf_below { leaf < M.LEAVES }
     requires group { IsOfGroup tree.old row }
-    requires noted { (p : Path) → IsSome (fin.get tree.old p) → row ≡ table_slot tree.old p → IsNoted tree.old p notes.now }
+    requires noted { (p : Path) → IsSome (fin.get tree.old p) → row ≡ row_at tree.old p → IsNoted tree.old p notes.now }
     requires slots { SlotsBelow M.SLOTS tree.old }
     requires room { M.held meter.old + length notes.now.slots ≤ HELD_MAX }
-    ensures content { (p : Path) → IsSome (fin.get tree.old p) → row ≡ table_slot tree.old p → (s j : ℕ) → M.content meter.new s j ≡ with_charges tree.old p leaf (M.content meter.old) s j }
+    ensures content { (p : Path) → IsSome (fin.get tree.old p) → row ≡ row_at tree.old p → (s j : ℕ) → M.content meter.new s j ≡ with_charges tree.old p leaf (M.content meter.old) s j }
     ensures held { M.held meter.new ≡ M.held meter.old + length notes.now.slots }
-    ensures raised { (p : Path) → IsSome (fin.get tree.old p) → row ≡ table_slot tree.old p → (q : Path) → fin.get tree.new q ≡ option_map (raised_by M.LEAVES (with_charges tree.old p leaf (M.content meter.old)) p q) (fin.get tree.old q) }
+    ensures raised { (p : Path) → IsSome (fin.get tree.old p) → row ≡ row_at tree.old p → (q : Path) → fin.get tree.new q ≡ option_map (raised_by M.LEAVES (with_charges tree.old p leaf (M.content meter.old)) p q) (fin.get tree.old q) }
     ensures slots { SameSlots tree.old tree.new }
 {
     tree.known();
@@ -277,9 +277,9 @@ pub(crate) fn set_list_up<T: Allocator + Clone, A: Allocator + Clone>(
     peaks: &Peaks<A>,
 )
     requires group { IsOfGroup tree.old row }
-    requires many { (p : Path) → IsSome (fin.get tree.old p) → row ≡ table_slot tree.old p → length peaks.now ≡ length p }
+    requires many { (p : Path) → IsSome (fin.get tree.old p) → row ≡ row_at tree.old p → length peaks.now ≡ length p }
     requires few { length peaks.now ≤ 32 }
-    ensures { (p : Path) → IsSome (fin.get tree.old p) → row ≡ table_slot tree.old p → SetsPeaks tree.old tree.new p peaks.now }
+    ensures { (p : Path) → IsSome (fin.get tree.old p) → row ≡ row_at tree.old p → SetsPeaks tree.old tree.new p peaks.now }
 {
     let mut table = [0; DEPTH_MAX];
     let front = &mut table[..peaks.len()];

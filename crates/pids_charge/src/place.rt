@@ -8,6 +8,7 @@ ghost use Rattle.std.specs.FinMap as fin;
 ghost use Rattle.std.specs.Map.{lookup};
 ghost use Rattle.flat_model.specs.CommandText.{IsPid};
 ghost use Rattle.flat_model.specs.Inverse.{back, Killed};
+ghost use Rattle.flat_model.specs.Path.{Path};
 ghost use Rattle.snzi_tokens.specs.Listed.{IsWithin, listed_at};
 ghost use Rattle.pids_charge.specs.Lists.{with_lost, without, placed_at, rows_of};
 ghost use Rattle.pids_charge.specs.Recount.{charges_at, SlotsBelow};
@@ -16,9 +17,9 @@ use crate::charges::Charges;
 use crate::groups::GroupTable;
 use crate::lost::Lost;
 use crate::meter::Meter;
+use crate::row::row_in;
 use crate::rows::{put_copy, take_row};
 use crate::settler::Settler;
-use crate::slot::slot_in;
 use crate::walk::push_up;
 use process_table::ProcessTable;
 use snzi_tokens::Token;
@@ -33,6 +34,7 @@ fn tokens_of<M: Meter, T: Allocator + Clone, A: Allocator + Clone, B: Allocator 
 ) -> Result<Vec<Token, A>, AllocError>
     requires leaf_below { leaf < M.LEAVES }
     requires homes { All (λ l. IsSome (fin.get tree.now l.path)) list.now }
+    requires shallow { (p : Path) → IsSome (fin.get tree.now p) → length p ≤ 32 }
     requires slots { SlotsBelow M.SLOTS tree.now }
     ensures counted { IfOk result (λ t. (s j : ℕ) → listed_at t.items s j ≡ sum_by (λ l. charges_at tree.now l.path leaf s j) list.now) }
     ensures many { IfOk result (λ t. length t.items ≡ sum_by (λ l. length l.path) list.now) }
@@ -40,8 +42,8 @@ fn tokens_of<M: Meter, T: Allocator + Clone, A: Allocator + Clone, B: Allocator 
 {
     let mut tokens = Vec::new(alloc);
     for lost in list {
-        let slot = slot_in(tree, &lost.path);
-        push_up::<M, _, _, _>(tree, &lost.path, slot, leaf, &mut tokens)?;
+        let row = row_in(tree, &lost.path);
+        push_up::<M, _, _>(tree, row, leaf, &mut tokens)?;
     }
     Ok(tokens)
 }
@@ -59,8 +61,8 @@ fn place_one<T: Allocator + Clone, A: Allocator + Clone, B: Allocator + Clone>(
     ensures kept { OnErr result (processes.new ≡ processes.old) }
     ensures pid { IsPid lost.now.pid }
 {
-    let slot = slot_in(tree, &lost.path);
-    let _ = put_copy(processes, alloc, lost.pid, &lost.path, slot, leaf)?;
+    let row = row_in(tree, &lost.path);
+    let _ = put_copy(processes, alloc, lost.pid, &lost.path, row, leaf)?;
     Ok(())
 }
 

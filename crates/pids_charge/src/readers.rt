@@ -74,10 +74,10 @@ impl<A: Allocator + Clone, M: Meter> Charges<A, M> {
         ensures listed { IfOk result (λ o. MatchOption o (is_group self.now path.now ≡ false) (λ pids. (is_group self.now path.now ≡ true) × (pids.items ≡ flat.members self.now path.now))) }
         ensures absent { is_group self.now path.now ≡ false → IsOk result }
     {
-        let Some(slot) = self.tree.find_row(path) else {
+        let Some(row) = self.tree.find_row(path) else {
             return Ok(None);
         };
-        let numbers = self.processes.unordered(slot);
+        let numbers = self.processes.unordered(row);
         let pids = ascending(numbers, alloc)?;
         Ok(Some(pids))
     }

@@ -12,7 +12,7 @@ ghost use Rattle.pids_charge.specs.Answers.{refusal_of_fault, after_fault, names
 use crate::charges::Charges;
 use crate::fault::ChargeFault;
 use crate::meter::Meter;
-use crate::slot::slot_above;
+use crate::row::row_above;
 use group_path::GroupPath;
 use group_tree::Attr;
 use std::alloc::{AllocError, Allocator};
@@ -66,7 +66,7 @@ impl<A: Allocator + Clone, M: Meter> Charges<A, M> {
     }
 
     /// Puts a group back with its limits, event totals and peak, on any free slot; the slot in `attr` is ignored. Tests no
-    /// limit of the groups above it. Costs two descents of the tree: one finds the slot of its parent.
+    /// limit of the groups above it. Costs two descents of the tree: one finds the row of its parent.
     ///
     /// # Errors
     ///
@@ -86,7 +86,7 @@ impl<A: Allocator + Clone, M: Meter> Charges<A, M> {
         self.tree.known();
         let last = self.free.len() - 1;
         let slot = self.free[last];
-        let above = slot_above(&self.tree, path);
+        let above = row_above(&self.tree, path);
         let made = self.tree.insert(path, Attr { slot, ..attr }, above);
         self.tree.known();
         if made.is_err() {

@@ -48,28 +48,28 @@ pub(crate) fn put_row<A: Allocator + Clone>(
     processes.insert(pid.get(), process)
 }
 
-// The group of one of the processes in a slot, if there is one.
-fn home_of_slot<A: Allocator + Clone>(
+// The group of one of the processes in a row, if there is one.
+fn home_of_row<A: Allocator + Clone>(
     processes: &ProcessTable<A>,
-    slot: u16,
+    row: u16,
 ) -> Option<&GroupPath<A>> {
-    let pid = processes.unordered(slot).first()?;
+    let pid = processes.unordered(row).first()?;
     let process = processes.get(*pid)?;
     Some(&process.home)
 }
 
-// The path for a process that comes into a slot. Processes of a slot are in one group, so a long text is copied for the
+// The path for a process that comes into a row. Processes of a row are in one group, so a long text is copied for the
 // first of them, and the others share it. It costs a comparison of the two texts, which also proves that they are equal.
 pub(crate) fn home_in<A: Allocator + Clone, B: Allocator + Clone>(
     processes: &ProcessTable<A>,
     alloc: &A,
     path: &GroupPath<B>,
-    slot: u16,
+    row: u16,
 ) -> Result<GroupPath<A>, AllocError>
     ensures { IfOk result (λ home. home ≡ path.now) }
 {
     if !path.is_short() {
-        if let Some(home) = home_of_slot(processes, slot) {
+        if let Some(home) = home_of_row(processes, row) {
             if home.is_same(path) {
                 return home.share();
             }
@@ -84,19 +84,19 @@ pub(crate) fn put_copy<A: Allocator + Clone, B: Allocator + Clone>(
     alloc: &A,
     pid: Pid,
     path: &GroupPath<B>,
-    slot: u16,
+    row: u16,
     leaf: u8,
 ) -> Result<Option<Process<A>>, AllocError>
     ensures old { IfOk result (λ old. old ≡ lookup (is_at (nat_cmp pid)) processes.old) }
-    ensures entries { OnOk result (processes.new ≡ insert_entry nat_cmp processes.old pid (process_in path.now slot leaf)) }
+    ensures entries { OnOk result (processes.new ≡ insert_entry nat_cmp processes.old pid (process_in path.now row leaf)) }
     ensures ordered { IsStrictlySortedBy nat_cmp (keys_of processes.new) }
     ensures kept { OnErr result (processes.new ≡ processes.old) }
     ensures pid { IsPid pid }
 {
     pid.get();
     processes.known();
-    let home = home_in(processes, alloc, path, slot)?;
-    put_row(processes, pid, Process { home, slot, leaf })
+    let home = home_in(processes, alloc, path, row)?;
+    put_row(processes, pid, Process { home, row, leaf })
 }
 
 // `put_copy`, which also returns the path that the process gets. They share a long text.
@@ -105,21 +105,21 @@ pub(crate) fn put_shared<A: Allocator + Clone, B: Allocator + Clone>(
     alloc: &A,
     pid: Pid,
     path: &GroupPath<B>,
-    slot: u16,
+    row: u16,
     leaf: u8,
 ) -> Result<(GroupPath<A>, Option<Process<A>>), AllocError>
     ensures path { IfOk result (λ put. put.0 ≡ path.now) }
     ensures old { IfOk result (λ put. put.1 ≡ lookup (is_at (nat_cmp pid)) processes.old) }
-    ensures entries { OnOk result (processes.new ≡ insert_entry nat_cmp processes.old pid (process_in path.now slot leaf)) }
+    ensures entries { OnOk result (processes.new ≡ insert_entry nat_cmp processes.old pid (process_in path.now row leaf)) }
     ensures ordered { IsStrictlySortedBy nat_cmp (keys_of processes.new) }
     ensures kept { OnErr result (processes.new ≡ processes.old) }
     ensures pid { IsPid pid }
 {
     pid.get();
     processes.known();
-    let home = home_in(processes, alloc, path, slot)?;
+    let home = home_in(processes, alloc, path, row)?;
     let shared = home.share()?;
-    let old = put_row(processes, pid, Process { home, slot, leaf })?;
+    let old = put_row(processes, pid, Process { home, row, leaf })?;
     Ok((shared, old))
 }
 

@@ -14,9 +14,9 @@ ghost use Rattle.flat_model.specs.Step as flat;
 ghost use Rattle.group_tree.specs.Flat.{group_of};
 ghost use Rattle.pids_charge.specs.Answers.{Does, names_in};
 ghost use Rattle.pids_charge.specs.Events.{HasRoomForEvents};
-ghost use Rattle.pids_charge.specs.Lists.{rows_of, table_slot};
+ghost use Rattle.pids_charge.specs.Lists.{rows_of, row_at};
 
-use crate::above::{Change, change_totals, set_peaks_up, slot_up};
+use crate::above::{Change, change_totals, row_up, set_peaks_up};
 use crate::charges::Charges;
 use crate::fault::ChargeFault;
 use crate::fork::ForkOutcome;
@@ -42,14 +42,14 @@ fn find_longest<T: Allocator + Clone, A: Allocator + Clone>(
 ) -> (usize, u16)
     ensures inside { result.0 ≤ length path.now }
     ensures group { IsSome (fin.get tree.now (take result.0 path.now)) }
-    ensures slot { result.1 ≡ table_slot tree.now (take result.0 path.now) }
+    ensures row { result.1 ≡ row_at tree.now (take result.0 path.now) }
     ensures missing { (n : ℕ) → result.0 < n → n ≤ length path.now → fin.get tree.now (take n path.now) ≡ None }
 {
     tree.known();
     let mut n = path.depth();
     while n > 0 {
-        if let Some(slot) = tree.find_row_at(path, n) {
-            return (n, slot);
+        if let Some(row) = tree.find_row_at(path, n) {
+            return (n, row);
         }
         n -= 1;
     }
@@ -107,9 +107,9 @@ impl<A: Allocator + Clone, M: Meter> Charges<A, M> {
             unreachable!()
         };
         self.tree.known();
-        let home = &process.home;
-        let at = slot_up(&self.tree, home, n, process.slot);
-        change_totals(&mut self.tree, home, n, at, Change::Raise);
+        let levels = process.home.depth() - n;
+        let at = row_up(&self.tree, process.row, levels);
+        change_totals(&mut self.tree, at, Change::Raise);
         self.tree.known();
     }
 

@@ -5,37 +5,33 @@ ghost use Rattle.std.specs.FinMap as fin;
 ghost use Rattle.flat_model.specs.Path.{Path, at_or_below};
 ghost use Rattle.snzi_tokens.specs.Listed.{IsWithin, listed_at};
 ghost use Rattle.pids_charge.specs.GroupRows.{IsOfGroup};
-ghost use Rattle.pids_charge.specs.Lists.{table_slot};
+ghost use Rattle.pids_charge.specs.Lists.{row_at};
 ghost use Rattle.pids_charge.specs.Recount.{charges_at, charges_of, IsPlaced, SlotsBelow};
 
 use crate::groups::GroupTable;
 use crate::meter::{HELD_MAX, Meter};
 use crate::notes::DEPTH_MAX;
-use group_path::GroupPath;
 use process_table::Process;
 use snzi_tokens::Token;
 use std::alloc::{AllocError, Allocator};
 
-// Adds one charge at the group of a path and at each group above it other than the root. `slot` is where the processes of the
-// group are in their table. Does not descend the tree.
-pub(crate) fn charge_up<T: Allocator + Clone, M: Meter, A: Allocator + Clone>(
+// Adds one charge at the group in a row and at each group above it other than the root. Does not descend the tree.
+pub(crate) fn charge_up<T: Allocator + Clone, M: Meter>(
     tree: &GroupTable<T>,
     meter: &mut M,
-    path: &GroupPath<A>,
-    slot: u16,
+    row: u16,
     leaf: u8,
 )
     requires leaf_below { leaf < M.LEAVES }
-    requires home { IsSome (fin.get tree.now path.now) }
-    requires slot { slot ≡ table_slot tree.now path.now }
+    requires group { IsOfGroup tree.now row }
+    requires shallow { (p : Path) → IsSome (fin.get tree.now p) → length p ≤ 32 }
     requires slots { SlotsBelow M.SLOTS tree.now }
-    requires room { M.held meter.old + length path.now ≤ HELD_MAX }
-    ensures content { (s j : ℕ) → M.content meter.new s j ≡ M.content meter.old s j + charges_at tree.now path.now leaf s j }
-    ensures held { M.held meter.new ≡ M.held meter.old + length path.now }
+    requires room { (p : Path) → IsSome (fin.get tree.now p) → row ≡ row_at tree.now p → M.held meter.old + length p ≤ HELD_MAX }
+    ensures content { (p : Path) → IsSome (fin.get tree.now p) → row ≡ row_at tree.now p → (s j : ℕ) → M.content meter.new s j ≡ M.content meter.old s j + charges_at tree.now p leaf s j }
+    ensures held { (p : Path) → IsSome (fin.get tree.now p) → row ≡ row_at tree.now p → M.held meter.new ≡ M.held meter.old + length p }
 {
     tree.known();
-    path.known();
-    let mut at = slot;
+    let mut at = row;
     for _up in 0..DEPTH_MAX {
         if at == 0 {
             break;
@@ -61,7 +57,7 @@ pub(crate) fn uncharge_up<T: Allocator + Clone, M: Meter, A: Allocator + Clone>(
 {
     tree.known();
     process.home.known();
-    let mut at = process.slot;
+    let mut at = process.row;
     for _up in 0..DEPTH_MAX {
         if at == 0 {
             break;
@@ -71,27 +67,24 @@ pub(crate) fn uncharge_up<T: Allocator + Clone, M: Meter, A: Allocator + Clone>(
     }
 }
 
-// Appends a token for the group of a path and for each group above it other than the root. `slot` is where the processes of
-// the group are in their table. Does not descend the tree.
-pub(crate) fn push_up<M: Meter, T: Allocator + Clone, A: Allocator + Clone, B: Allocator>(
+// Appends a token for the group in a row and for each group above it other than the root. Does not descend the tree.
+pub(crate) fn push_up<M: Meter, T: Allocator + Clone, B: Allocator>(
     tree: &GroupTable<T>,
-    path: &GroupPath<A>,
-    slot: u16,
+    row: u16,
     leaf: u8,
     tokens: &mut Vec<Token, B>,
 ) -> Result<(), AllocError>
     requires leaf_below { leaf < M.LEAVES }
-    requires home { IsSome (fin.get tree.now path.now) }
-    requires slot { slot ≡ table_slot tree.now path.now }
+    requires group { IsOfGroup tree.now row }
+    requires shallow { (p : Path) → IsSome (fin.get tree.now p) → length p ≤ 32 }
     requires slots { SlotsBelow M.SLOTS tree.now }
     requires within { IsWithin M.SLOTS M.LEAVES tokens.old.items }
-    ensures counted { OnOk result ((s j : ℕ) → listed_at tokens.new.items s j ≡ listed_at tokens.old.items s j + charges_at tree.now path.now leaf s j) }
-    ensures many { OnOk result (length tokens.new.items ≡ length tokens.old.items + length path.now) }
+    ensures counted { OnOk result ((p : Path) → IsSome (fin.get tree.now p) → row ≡ row_at tree.now p → (s j : ℕ) → listed_at tokens.new.items s j ≡ listed_at tokens.old.items s j + charges_at tree.now p leaf s j) }
+    ensures many { OnOk result ((p : Path) → IsSome (fin.get tree.now p) → row ≡ row_at tree.now p → length tokens.new.items ≡ length tokens.old.items + length p) }
     ensures within { IsWithin M.SLOTS M.LEAVES tokens.new.items }
 {
     tree.known();
-    path.known();
-    let mut at = slot;
+    let mut at = row;
     for _up in 0..DEPTH_MAX {
         if at == 0 {
             break;
@@ -107,7 +100,7 @@ pub(crate) fn push_up<M: Meter, T: Allocator + Clone, A: Allocator + Clone, B: A
 pub(crate) fn is_at_or_below<T: Allocator + Clone>(tree: &GroupTable<T>, at: u16, top: u16) -> bool
     requires group { IsOfGroup tree.now at }
     requires shallow { (p : Path) → IsSome (fin.get tree.now p) → length p ≤ 32 }
-    ensures { (p q : Path) → IsSome (fin.get tree.now p) → IsSome (fin.get tree.now q) → at ≡ table_slot tree.now p → top ≡ table_slot tree.now q → result ≡ at_or_below p q }
+    ensures { (p q : Path) → IsSome (fin.get tree.now p) → IsSome (fin.get tree.now q) → at ≡ row_at tree.now p → top ≡ row_at tree.now q → result ≡ at_or_below p q }
 {
     tree.known();
     let mut met = at;

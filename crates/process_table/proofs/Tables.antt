@@ -13,9 +13,9 @@ use Rattle.process_table.specs.declared.process.Cell.{Cell}
 use Rattle.process_table.specs.declared.process.Process.{Process}
 use Rattle.process_table.specs.Cells.{cell_at}
 use Rattle.process_table.specs.Chosen.{HaveOneHome}
-use Rattle.process_table.specs.SlotPids.{list_at, IsAt}
+use Rattle.process_table.specs.Members.{list_at, IsAt}
 use Rattle.process_table.specs.Rows.{rows_from, pid_count, process_of, process_at, table_of}
-use Rattle.process_table.specs.Tied.{in_slot, IsTied}
+use Rattle.process_table.specs.Tied.{in_row, IsTied}
 use Rattle.process_table.proofs.RowLaws.{counted, alike, rows_ascend, rows_found, rows_counted, rows_put, rows_taken}
 use Rattle.process_table.proofs.ChosenPids.{has_cell}
 use Rattle.process_table.proofs.PageChanges.{no_page}
@@ -48,15 +48,15 @@ module _ {A : Type 0} where
   pub tied_alike : (cells same : ℕ → Option (Cell A)) (lists after : List (List ℕ)) → IsTied cells lists → ((q : ℕ) → same q ≡ cells q)
       → ((s : ℕ) → list_at after s ≡ list_at lists s) → IsTied same after
   tied_alike cells same lists after t h l = record {
-    counted = λ s q. ap (count_by (eqb q)) (l s) ∙ t.counted s q ∙ sym (ap (in_slot s) (h q));
-    placed = λ q c is. subst (λ xs. IsAt xs c.place q) (sym (l c.process.slot)) (t.placed q c (sym (h q) ∙ is));
+    counted = λ s q. ap (count_by (eqb q)) (l s) ∙ t.counted s q ∙ sym (ap (in_row s) (h q));
+    placed = λ q c is. subst (λ xs. IsAt xs c.place q) (sym (l c.process.row)) (t.placed q c (sym (h q) ∙ is));
     few = λ q le. h q ∙ t.few q le;
   }
 
   -- no pages, no lists
   pub empty_tied : (pages : List (List (Option (Cell A)))) (lists : List (List ℕ)) → pages ≡ [] → lists ≡ [] → IsTied (cell_at pages) lists
   empty_tied pages lists e f = subst (λ ps. IsTied (cell_at ps) lists) (sym e) (subst (IsTied (cell_at [])) (sym f) (record {
-    counted = λ s q. sym (ap (in_slot {A = A} s) (no_page [] q (omega arith)));
+    counted = λ s q. sym (ap (in_row {A = A} s) (no_page [] q (omega arith)));
     placed = λ q c is. absurd (none q c is);
     few = λ q _. no_page [] q (omega arith);
   }))
@@ -103,15 +103,15 @@ module _ {A : Type 0} where
       pub get_is : (q : ℕ) → lookup (is_at (nat_cmp q)) now ≡ process_at pages q
       get_is q = ap (lookup (is_at (nat_cmp q))) (sym view) ∙ table_found q
 
-      -- each pid of a slot has a process
-      in_list : (slot : ℕ) → All (λ q. IsSome (lookup (is_at (nat_cmp q)) now)) (list_at lists slot)
-      in_list slot = λ k d h.
-          let q : ℕ = get_or (list_at lists slot) k d in
-          let at : IsAt (list_at lists slot) k q = record { within = h; here = get_or_default (list_at lists slot) k 0 d h } in
-          subst IsSome (sym (get_is q)) (a_process q (has_cell (cell_at pages) lists t slot k q at) (cell_at pages q) refl)
+      -- each pid of a row has a process
+      in_list : (row : ℕ) → All (λ q. IsSome (lookup (is_at (nat_cmp q)) now)) (list_at lists row)
+      in_list row = λ k d h.
+          let q : ℕ = get_or (list_at lists row) k d in
+          let at : IsAt (list_at lists row) k q = record { within = h; here = get_or_default (list_at lists row) k 0 d h } in
+          subst IsSome (sym (get_is q)) (a_process q (has_cell (cell_at pages) lists t row k q at) (cell_at pages q) refl)
 
-      pub each_found : (slot : ℕ) (pids : List ℕ) → pids ≡ list_at lists slot → All (λ q. IsSome (lookup (is_at (nat_cmp q)) now)) pids
-      each_found slot pids same = subst (All (λ q. IsSome (lookup (is_at (nat_cmp q)) now))) (sym same) (in_list slot)
+      pub each_found : (row : ℕ) (pids : List ℕ) → pids ≡ list_at lists row → All (λ q. IsSome (lookup (is_at (nat_cmp q)) now)) pids
+      each_found row pids same = subst (All (λ q. IsSome (lookup (is_at (nat_cmp q)) now))) (sym same) (in_list row)
 
       pub one_home_now : HaveOneHome (λ q. lookup (is_at (nat_cmp q)) now) → HaveOneHome (process_at pages)
       one_home_now h p q x y a b = h p q x y (get_is p ∙ a) (get_is q ∙ b)

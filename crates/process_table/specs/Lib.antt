@@ -1,5 +1,5 @@
 pub mod Cells
 pub mod Rows
-pub mod SlotPids
+pub mod Members
 pub mod Tied
 pub mod Chosen

@@ -8,23 +8,23 @@ ghost use Rattle.process_table.specs.Chosen.{HaveOneHome, chosen_at, chosen_belo
 ghost use Rattle.process_table.specs.Rows.{process_at};
 ghost use Rattle.process_table.specs.Tied.{IsTied};
 
+use crate::members::RowMembers;
 use crate::pages::Pages;
-use crate::slots::Slots;
 use group_path::GroupPath;
 use std::alloc::{AllocError, Allocator};
 
-// Whether the processes of a slot are at or below the path. All are in one group, so it tests only one of them.
+// Whether the processes of a row are at or below the path. All are in one group, so it tests only one of them.
 fn are_inside<A: Allocator + Clone, P: Allocator + Clone>(
     pages: &Pages<A>,
-    slots: &Slots<A>,
-    slot: usize,
+    members: &RowMembers<A>,
+    row: usize,
     path: &GroupPath<P>,
 ) -> bool
-    requires tied { IsTied (cell_at pages.now) slots.now }
+    requires tied { IsTied (cell_at pages.now) members.now }
     requires homes { HaveOneHome (process_at pages.now) }
-    ensures { (q : ℕ) (x : Process A) → process_at pages.now q ≡ Some x → x.slot ≡ slot → result ≡ at_or_below x.home path.now }
+    ensures { (q : ℕ) (x : Process A) → process_at pages.now q ≡ Some x → x.row ≡ row → result ≡ at_or_below x.home path.now }
 {
-    let Some(pid) = slots.first(slot) else {
+    let Some(pid) = members.first(row) else {
         return false;
     };
     let Some(cell) = pages.get(pid) else {
@@ -33,20 +33,20 @@ fn are_inside<A: Allocator + Clone, P: Allocator + Clone>(
     cell.process.home.is_at_or_below(path)
 }
 
-// Appends the pids of a slot, if they are at or below the path.
+// Appends the pids of a row, if they are at or below the path.
 fn append_inside<A: Allocator + Clone, P: Allocator + Clone, B: Allocator>(
     pages: &Pages<A>,
-    slots: &Slots<A>,
-    slot: usize,
+    members: &RowMembers<A>,
+    row: usize,
     path: &GroupPath<P>,
     pids: &mut Vec<u32, B>,
 ) -> Result<(), AllocError>
-    requires tied { IsTied (cell_at pages.now) slots.now }
+    requires tied { IsTied (cell_at pages.now) members.now }
     requires homes { HaveOneHome (process_at pages.now) }
-    ensures { OnOk result ((q : ℕ) → count_by (eqb q) pids.new.items ≡ count_by (eqb q) pids.old.items + chosen_at slot path.now (process_at pages.now q)) }
+    ensures { OnOk result ((q : ℕ) → count_by (eqb q) pids.new.items ≡ count_by (eqb q) pids.old.items + chosen_at row path.now (process_at pages.now q)) }
 {
-    if are_inside(pages, slots, slot, path) {
-        return pids.extend_from_slice(slots.pids(slot));
+    if are_inside(pages, members, row, path) {
+        return pids.extend_from_slice(members.pids(row));
     }
     Ok(())
 }
@@ -54,17 +54,17 @@ fn append_inside<A: Allocator + Clone, P: Allocator + Clone, B: Allocator>(
 // The pids at or below the path, in no order.
 pub(crate) fn gather<A: Allocator + Clone, P: Allocator + Clone, B: Allocator>(
     pages: &Pages<A>,
-    slots: &Slots<A>,
+    members: &RowMembers<A>,
     alloc: B,
     path: &GroupPath<P>,
 ) -> Result<Vec<u32, B>, AllocError>
-    requires tied { IsTied (cell_at pages.now) slots.now }
+    requires tied { IsTied (cell_at pages.now) members.now }
     requires homes { HaveOneHome (process_at pages.now) }
-    ensures { IfOk result (λ v. (q : ℕ) → count_by (eqb q) v.items ≡ chosen_below (length slots.now) path.now (process_at pages.now q)) }
+    ensures { IfOk result (λ v. (q : ℕ) → count_by (eqb q) v.items ≡ chosen_below (length members.now) path.now (process_at pages.now q)) }
 {
     let mut pids = Vec::new(alloc);
-    for slot in 0..slots.len() {
-        append_inside(pages, slots, slot, path, &mut pids)?;
+    for row in 0..members.len() {
+        append_inside(pages, members, row, path, &mut pids)?;
     }
     Ok(pids)
 }

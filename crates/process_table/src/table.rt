@@ -11,20 +11,20 @@ ghost use Rattle.flat_model.specs.Path.{at_or_below};
 ghost use Rattle.process_table.specs.Chosen.{HaveOneHome, member_at};
 
 use crate::gather::gather;
+use crate::members::RowMembers;
 use crate::pages::Pages;
 use crate::process::Process;
-use crate::slots::Slots;
 use crate::tied::{put_in, take_out};
 use group_path::GroupPath;
 use std::alloc::{AllocError, Allocator};
 use std::marker::Model;
 
-/// Processes by their pids, and by the slots of their groups. Contracts see the list of pids with processes, pids
+/// Processes by their pids, and by the rows of their groups. Contracts see the list of pids with processes, pids
 /// ascending.
 #[derive(Drop)]
 pub struct ProcessTable<A: Allocator + Clone> {
     pages: Pages<A>,
-    slots: Slots<A>,
+    members: RowMembers<A>,
     alloc: A,
 }
 
@@ -39,7 +39,7 @@ impl<A: Allocator + Clone> Model for ProcessTable<A> {
 
     ghost view = { λ t. table_of t.pages };
 
-    ghost invariant = { λ t. IsTied (cell_at t.pages) t.slots };
+    ghost invariant = { λ t. IsTied (cell_at t.pages) t.members };
 }
 
 impl<A: Allocator + Clone> ProcessTable<A> {
@@ -52,10 +52,10 @@ impl<A: Allocator + Clone> ProcessTable<A> {
         ensures { IfOk result (λ t. t ≡ []) }
     {
         let pages = Pages::new(alloc.clone()?);
-        let slots = Slots::new(alloc.clone()?);
+        let members = RowMembers::new(alloc.clone()?);
         Ok(ProcessTable {
             pages,
-            slots,
+            members,
             alloc,
         })
     }
@@ -98,8 +98,8 @@ impl<A: Allocator + Clone> ProcessTable<A> {
         ensures ordered { IsStrictlySortedBy nat_cmp (keys_of self.new) }
     {
         self.pages.grow(&self.alloc, pid)?;
-        self.slots.grow(&self.alloc, process.slot)?;
-        put_in(&mut self.pages, &mut self.slots, pid, process)
+        self.members.grow(&self.alloc, process.row)?;
+        put_in(&mut self.pages, &mut self.members, pid, process)
     }
 
     /// Removes a process and returns it, in constant time. Allocates nothing.
@@ -108,20 +108,20 @@ impl<A: Allocator + Clone> ProcessTable<A> {
         ensures entries { self.new ≡ remove_entry (is_at (nat_cmp pid)) self.old }
         ensures ordered { IsStrictlySortedBy nat_cmp (keys_of self.new) }
     {
-        take_out(&mut self.pages, &mut self.slots, pid)
+        take_out(&mut self.pages, &mut self.members, pid)
     }
 
-    /// The pids of the processes in a slot, in no order. Takes constant time and allocates nothing.
-    pub fn unordered(&self, slot: u16) -> &[u32]
+    /// The pids of the processes in a row, in no order. Takes constant time and allocates nothing.
+    pub fn unordered(&self, row: u16) -> &[u32]
         ensures present { All (λ q. IsSome (lookup (is_at (nat_cmp q)) self.now)) result.now }
-        ensures counted { (q : ℕ) → count_by (eqb q) result.now ≡ member_at slot (lookup (is_at (nat_cmp q)) self.now) }
-        ensures sorted { (pids : List ℕ) → IsPermutation result.now pids → IsSorted nat_cmp pids → pids ≡ map (λ e. e.0) (filter (λ e. eqb e.1.slot slot) self.now) }
+        ensures counted { (q : ℕ) → count_by (eqb q) result.now ≡ member_at row (lookup (is_at (nat_cmp q)) self.now) }
+        ensures sorted { (pids : List ℕ) → IsPermutation result.now pids → IsSorted nat_cmp pids → pids ≡ map (λ e. e.0) (filter (λ e. eqb e.1.row row) self.now) }
     {
-        self.slots.pids(usize::from(slot))
+        self.members.pids(usize::from(row))
     }
 
-    /// The pids of the processes at or below a group, ascending. The processes of a slot must all be in one group.
-    /// Takes O(n log n) for n pids, plus one test of a path for each slot that has been used.
+    /// The pids of the processes at or below a group, ascending. The processes of a row must all be in one group.
+    /// Takes O(n log n) for n pids, plus one test of a path for each row that has been used.
     ///
     /// # Errors
     ///
@@ -134,7 +134,7 @@ impl<A: Allocator + Clone> ProcessTable<A> {
         requires { HaveOneHome (λ q. lookup (is_at (nat_cmp q)) self.now) }
         ensures { IfOk result (λ pids. pids.items ≡ map (λ e. e.0) (filter (λ e. at_or_below e.1.home path.now) self.now)) }
     {
-        let mut pids = gather(&self.pages, &self.slots, alloc, path)?;
+        let mut pids = gather(&self.pages, &self.members, alloc, path)?;
         pids.sort_unstable();
         Ok(pids)
     }

@@ -51,7 +51,7 @@ reply_of OutOfMemory = None
 
 abbrev pub inverse_of : {A : Type 0} → Inverse A → model_inverse.Inverse
 inverse_of (Made path) = model_inverse.Made path
-inverse_of (Removed path attr) = model_inverse.Removed path (group_of attr)
+inverse_of (Removed path attr) = model_inverse.Removed path (group_of attr.value)
 inverse_of (Forked pid peaks) = model_inverse.Forked pid peaks
 inverse_of (Exited pid path) = model_inverse.Exited pid path
 inverse_of (Moved pid path peaks) = model_inverse.Moved pid path peaks

@@ -20,8 +20,8 @@ pub enum Inverse<A: Allocator + Clone> {
     Removed {
         /// The group.
         path: GroupPath<A>,
-        /// Its attributes. The slot is not binding.
-        attr: Attr,
+        /// Its attributes, apart, so that the other records are smaller. The slot is not binding.
+        attr: Box<Attr, A>,
     },
     /// A process was made. The undo removes it, and restores the peaks along its group's path.
     Forked {
@@ -82,10 +82,11 @@ impl<A: Allocator + Clone> Inverse<A> {
             Inverse::Made { path } => Ok(Inverse::Made {
                 path: path.copy(alloc)?,
             }),
-            Inverse::Removed { path, attr } => Ok(Inverse::Removed {
-                path: path.copy(alloc)?,
-                attr: *attr,
-            }),
+            Inverse::Removed { path, attr } => {
+                let path = path.copy(alloc.clone()?)?;
+                let attr = Box::new(alloc, **attr)?;
+                Ok(Inverse::Removed { path, attr })
+            }
             Inverse::Forked { pid, peaks } => Ok(Inverse::Forked {
                 pid: *pid,
                 peaks: peaks.copy(alloc)?,

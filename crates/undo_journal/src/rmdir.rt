@@ -31,8 +31,9 @@ impl<A: Allocator + Clone, M: Meter> Engine<A, M> {
     {
         let named = path.copy(self.alloc.clone()?)?;
         let removed = named.share()?;
+        let mut attr = Box::new(self.alloc.clone()?, Attr::new(0))?;
         self.journal.reserve(1)?;
-        let attr = self.charges.take_group(path);
+        *attr = self.charges.take_group(path);
         self.journal.push(JournalEntry {
             command: Command::RemoveGroup(named),
             inverse: Inverse::Removed {

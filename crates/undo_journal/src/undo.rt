@@ -42,7 +42,7 @@ fn take_back<A: Allocator + Clone, M: Meter, S: Settler>(
             undo_mkdir(charges, path);
             Ok(())
         }
-        Inverse::Removed { path, attr } => undo_rmdir(charges, path, *attr),
+        Inverse::Removed { path, attr } => undo_rmdir(charges, path, **attr),
         Inverse::Forked { pid, peaks } => {
             undo_fork(charges, who, *pid, peaks);
             Ok(())

@@ -6,12 +6,12 @@ use Rattle.std.specs.Map.{values_of, keys_of}
 use Rattle.std.specs.Ordering.{nat_cmp}
 use Rattle.std.proofs.lemmas.List.Sums.{sum_by-cons}
 use Rattle.flat_model.specs.Path.{Path}
-use Rattle.pids_charge.specs.Lists.{Row, inside, is_inside, row_below, table_slot}
+use Rattle.pids_charge.specs.Lists.{Row, inside, is_inside, row_below, row_at}
 use Rattle.pids_charge.specs.Recount.{charges_at}
 use Rattle.process_table.specs.declared.process.Process.{Process}
 use Rattle.pids_charge.proofs.TableCopies.{one_more_row, one_more_summed, all_rows, all_summed}
 use Rattle.pids_charge.proofs.Gathers.{is_found, next_row, none_left, all_inside}
-use Rattle.pids_charge.proofs.TableSlots.{found_value}
+use Rattle.pids_charge.proofs.RowsAt.{found_value}
 use Rattle.pids_charge.proofs.copy.copy_each.Goals as goal
 
 pub unreachable-requires : goal.unreachable-requires
@@ -23,13 +23,13 @@ unreachable-requires g c =
 pub copy_one-requires-clause-home : goal.copy_one-requires-clause-home
 copy_one-requires-clause-home g c =
     let k : ℕ = get_or c.as_slice-pid-items.result.now c.loop-pid.pid-index 0 in
-    (found_value (λ p. IsSome (fin.get c.args.tree.now p.home) × (p.slot ≡ table_slot c.args.tree.now p.home)) (is_at (nat_cmp k))
+    (found_value (λ p. IsSome (fin.get c.args.tree.now p.home) × (p.row ≡ row_at c.args.tree.now p.home)) (is_at (nat_cmp k))
     c.args.processes.now c.in-Some.process.now c.requires.homes (sym c.in-Some.ensures)).0
 
-pub copy_one-requires-clause-slot : goal.copy_one-requires-clause-slot
-copy_one-requires-clause-slot g c =
+pub copy_one-requires-clause-row : goal.copy_one-requires-clause-row
+copy_one-requires-clause-row g c =
     let k : ℕ = get_or c.as_slice-pid-items.result.now c.loop-pid.pid-index 0 in
-    (found_value (λ p. IsSome (fin.get c.args.tree.now p.home) × (p.slot ≡ table_slot c.args.tree.now p.home)) (is_at (nat_cmp k))
+    (found_value (λ p. IsSome (fin.get c.args.tree.now p.home) × (p.row ≡ row_at c.args.tree.now p.home)) (is_at (nat_cmp k))
     c.args.processes.now c.in-Some.process.now c.requires.homes (sym c.in-Some.ensures)).1
 
 pub copy_one-requires-clause-room : goal.copy_one-requires-clause-room

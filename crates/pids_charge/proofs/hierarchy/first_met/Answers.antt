@@ -6,39 +6,40 @@ use Rattle.pids_charge.proofs.ParentSteps.{at_own, of_group, parent_of_front}
 use Rattle.pids_charge.proofs.hierarchy.first_met.Goals as goal
 
 pub loop-levels-init : goal.loop-levels-init
-loop-levels-init g c = record { at = at_own c.args.tree.now (parent c.args.path.now) _ c.requires.above; none = refl }
-
-pub overflow_add-levels-end : goal.overflow_add-levels-end
-overflow_add-levels-end g c = let few = c.known-2.ensures.shallow in omega (arith, few, c.requires.names)
+loop-levels-init g c = record { at = λ q there here. at_own c.args.tree.now q c.args.above here; none = λ p names there here. refl }
 
 pub met_in-requires : goal.met_in-requires
 met_in-requires g c =
-    let q : Path = parent c.args.path.now in
-    of_group c.args.tree.now q c.requires.parent c.known.ensures.prefixes c.loop-levels.at (length q - c.loop-levels.levels) c.loop-levels.invariant.at
+    let own = c.requires.parent in
+    of_group c.args.tree.now own.path own.there c.known.ensures.prefixes c.loop-levels.at (length own.path - c.loop-levels.levels) (c.loop-levels.invariant.at own.path own.there own.here)
 
 pub up-at-requires : goal.up-at-requires
 up-at-requires g c =
-    let q : Path = parent c.args.path.now in
-    of_group c.args.tree.now q c.requires.parent c.known.ensures.prefixes c.loop-levels.at (length q - c.loop-levels.levels) c.loop-levels.invariant.at
+    let own = c.requires.parent in
+    of_group c.args.tree.now own.path own.there c.known.ensures.prefixes c.loop-levels.at (length own.path - c.loop-levels.levels) (c.loop-levels.invariant.at own.path own.there own.here)
 
 pub returns-in-Some : goal.returns-in-Some
-returns-in-Some g c =
-    let q : Path = parent c.args.path.now in
+returns-in-Some g c = λ p names home here.
+    let q : Path = parent p in
     let own : Path = take (length q - c.loop-levels.levels) q in
-    let there = c.known.ensures.prefixes q own c.requires.parent (take_above (length q - c.loop-levels.levels) q) in
-    first_here c.args.tree.now c.args.path.now (omega (arith, c.requires.names)) c.loop-levels.levels (c.args.n - c.loop-levels.levels) (omega (arith, c.requires.names)) (omega (arith, c.requires.names))
-    _ c.in-Some.met (c.in-Some.ensures own there c.loop-levels.invariant.at) refl c.loop-levels.invariant.none
+    let there = c.known.ensures.prefixes q own home (take_above (length q - c.loop-levels.levels) q) in
+    first_here c.args.tree.now p (omega (arith, names)) c.loop-levels.levels (c.args.n - c.loop-levels.levels) (omega (arith, names)) (omega (arith, names))
+    _ c.in-Some.met (c.in-Some.ensures own there (c.loop-levels.invariant.at q home here)) refl (c.loop-levels.invariant.none p names home here)
 
 pub loop-levels-preserved : goal.loop-levels-preserved
-loop-levels-preserved g c =
-    let q : Path = parent c.args.path.now in
-    let own : Path = take (length q - c.loop-levels.levels) q in
-    let there = c.known.ensures.prefixes q own c.requires.parent (take_above (length q - c.loop-levels.levels) q) in
-    record {
-      at = c.up-at.ensures own there c.loop-levels.invariant.at ∙ parent_of_front c.args.tree.now q c.loop-levels.levels;
-      none = one_further c.args.tree.now c.args.path.now (omega (arith, c.requires.names)) c.loop-levels.levels (c.args.n - c.loop-levels.levels)
-          (omega (arith, c.requires.names)) (omega (arith, c.requires.names)) (c.loop-levels.levels + 1) (omega arith) _ (c.in_default.ensures own there c.loop-levels.invariant.at) refl c.loop-levels.invariant.none;
-    }
+loop-levels-preserved g c = record {
+  at = λ q there here.
+      let own : Path = take (length q - c.loop-levels.levels) q in
+      c.up-at.ensures own (c.known.ensures.prefixes q own there (take_above (length q - c.loop-levels.levels) q)) (c.loop-levels.invariant.at q there here)
+      ∙ parent_of_front c.args.tree.now q c.loop-levels.levels;
+  none = λ p names home here.
+      let q : Path = parent p in
+      let own : Path = take (length q - c.loop-levels.levels) q in
+      let there = c.known.ensures.prefixes q own home (take_above (length q - c.loop-levels.levels) q) in
+      one_further c.args.tree.now p (omega (arith, names)) c.loop-levels.levels (c.args.n - c.loop-levels.levels)
+      (omega (arith, names)) (omega (arith, names)) (c.loop-levels.levels + 1) (omega arith) _ (c.in_default.ensures own there (c.loop-levels.invariant.at q home here)) refl
+      (c.loop-levels.invariant.none p names home here);
+}
 
 pub returns : goal.returns
-returns g c = none_met c.args.tree.now c.args.path.now (omega (arith, c.requires.names)) c.loop-levels.levels (omega (arith, c.requires.names)) c.loop-levels.invariant.none
+returns g c = λ p names home here. none_met c.args.tree.now p (omega (arith, names)) c.loop-levels.levels (omega (arith, names)) (c.loop-levels.invariant.none p names home here)

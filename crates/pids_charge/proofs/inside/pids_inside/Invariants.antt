@@ -5,9 +5,9 @@ use Rattle.std.specs.Map.{lookup}
 use Rattle.std.specs.Ordering.{nat_cmp}
 use Rattle.flat_model.specs.Path.{Path}
 use Rattle.process_table.specs.Chosen.{chosen_below}
-use Rattle.pids_charge.specs.Lists.{table_slot}
+use Rattle.pids_charge.specs.Lists.{row_at}
 use Rattle.pids_charge.proofs.inside.pids_inside.Given as goal
 
 abbrev pub invariant-loop-at : goal.invariant-loop-at
-invariant-loop-at g l = (p : Path) → IsSome (fin.get l.tree p) → l.top ≡ table_slot l.tree p → (q : ℕ)
+invariant-loop-at g l = (p : Path) → IsSome (fin.get l.tree p) → l.top ≡ row_at l.tree p → (q : ℕ)
     → count_by (eqb q) l.pids.items ≡ chosen_below l.at p (lookup (is_at (nat_cmp q)) l.processes)

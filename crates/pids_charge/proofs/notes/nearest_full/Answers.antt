@@ -6,7 +6,7 @@ use Rattle.group_tree.specs.Groups.{Groups, slot_of}
 use Rattle.group_tree.specs.declared.attr.Attr.{Attr}
 use Rattle.pids_charge.specs.Content.{Content}
 use Rattle.pids_charge.specs.Events.{full_by, longest}
-use Rattle.pids_charge.specs.Lists.{table_slot}
+use Rattle.pids_charge.specs.Lists.{row_at}
 use Rattle.pids_charge.proofs.ParentSteps.{of_group, own_below, step_up, at_own}
 use Rattle.pids_charge.proofs.FullGroupWalk.{longest-yes, longest-no}
 use Rattle.pids_charge.proofs.notes.nearest_full.Goals as goal
@@ -17,7 +17,7 @@ loop-up-init g c =
     let whole : length p ≡ length p - 0 = omega arith in
     record {
       bound = omega arith;
-      at = at_own c.args.tree.now p _ c.requires.slot;
+      at = at_own c.args.tree.now p _ c.requires.row;
       answer = ap (longest (λ a. full_by g.M.Meter.LEAVES (g.M.Meter.content c.args.meter.now) (fin.get c.args.tree.now a)) p) whole;
       same = refl;
       held = refl;
@@ -82,4 +82,4 @@ returns-then-is_full-clause-answer g c =
 
 pub returns-then-is_full-clause-row : goal.returns-then-is_full-clause-row
 returns-then-is_full-clause-row g c =
-    c.loop-up.invariant.at ∙ ap (λ (k : ℕ). table_slot c.args.tree.now (take (k - c.loop-up.up) c.args.path.now)) (sym c.depth.ensures)
+    c.loop-up.invariant.at ∙ ap (λ (k : ℕ). row_at c.args.tree.now (take (k - c.loop-up.up) c.args.path.now)) (sym c.depth.ensures)

@@ -11,7 +11,7 @@ loop-up-init g c =
     let whole : length p - 0 ≡ length p = omega arith in
     record {
       bound = omega arith;
-      at = at_own c.args.tree.now p _ c.requires.placed.slot;
+      at = at_own c.args.tree.now p _ c.requires.placed.row;
       content = λ s j. ap (λ (n : ℕ). g.M.Meter.content c.args.meter.now s j + chain_at c.args.tree.now p n c.args.process.now.leaf s j) (sym whole);
       held = ap (λ (n : ℕ). g.M.Meter.held c.args.meter.now + n) (sym whole);
     }

@@ -1,15 +1,16 @@
-use Rattle.std.proofs.Common.{◌≡◌, ℕ, List, IsSome, arith, sym, ap, ◌∙◌, subst}
+use Rattle.std.proofs.Common.{◌≡◌, ◌≤◌, ℕ, List, IsSome, length, arith, sym, ap, ◌∙◌, subst}
 use Rattle.std.specs.FinMap as fin
 use Rattle.std.specs.Map.{values_of}
 use Rattle.std.proofs.lemmas.List.Elements.{All-weaker}
+use Rattle.flat_model.specs.Path.{Path}
 use Rattle.group_tree.specs.Groups.{Groups}
 use Rattle.pids_charge.specs.Content.{Content}
-use Rattle.pids_charge.specs.Lists.{Row, table_slot}
+use Rattle.pids_charge.specs.Lists.{Row, row_at}
 use Rattle.pids_charge.specs.Recount.{IsPlaced, SlotsBelow, HasSlots, Recounted, state_of}
 use Rattle.pids_charge.specs.Table.{table_at, table_held}
 use Rattle.pids_charge.specs.declared.plain.TheConstants.{SLOTS, LEAVES}
 use Rattle.pids_charge.proofs.MeterContents.{held_small}
-use Rattle.pids_charge.proofs.TableSlots.{one_home}
+use Rattle.pids_charge.proofs.RowsAt.{one_home}
 use Rattle.pids_charge.proofs.TableCopies.{same_state, recounted}
 use Rattle.pids_charge.proofs.charges.Charges.copy_plain.Goals as goal
 
@@ -19,13 +20,16 @@ copy_each-requires-clause-one g c =
 
 pub copy_each-requires-clause-homes : goal.copy_each-requires-clause-homes
 copy_each-requires-clause-homes g c =
-    All-weaker (λ p. IsPlaced g.M.Meter.LEAVES c.self.inside.tree p) (λ p. IsSome (fin.get c.in_ok-tree.tree p.home) × (p.slot ≡ table_slot c.in_ok-tree.tree p.home))
-    (λ p h. subst (λ (t : Groups). IsSome (fin.get t p.home) × (p.slot ≡ table_slot t p.home)) (sym c.in_ok-tree.ensures) (h.home, h.slot))
+    All-weaker (λ p. IsPlaced g.M.Meter.LEAVES c.self.inside.tree p) (λ p. IsSome (fin.get c.in_ok-tree.tree p.home) × (p.row ≡ row_at c.in_ok-tree.tree p.home))
+    (λ p h. subst (λ (t : Groups). IsSome (fin.get t p.home) × (p.row ≡ row_at t p.home)) (sym c.in_ok-tree.ensures) (h.home, h.row))
     (values_of c.self.inside.processes) c.self.invariant.recounted.placed
 
 pub copy_each-requires-clause-slots : goal.copy_each-requires-clause-slots
 copy_each-requires-clause-slots g c =
     subst (SlotsBelow SLOTS) (sym c.in_ok-tree.ensures) (subst (λ (n : ℕ). SlotsBelow n c.self.inside.tree) c.requires c.self.invariant.has_slots.below)
+
+pub copy_each-requires-clause-shallow : goal.copy_each-requires-clause-shallow
+copy_each-requires-clause-shallow g c = subst (λ (t : Groups). (p : Path) → IsSome (fin.get t p) → length p ≤ 32) (sym c.in_ok-tree.ensures) c.self.invariant.has_slots.shallow
 
 pub copy_each-requires-clause-room : goal.copy_each-requires-clause-room
 copy_each-requires-clause-room g c =

@@ -9,13 +9,14 @@ use Rattle.flat_model.proofs.PathLaws.{take_above}
 use Rattle.group_tree.specs.Flat.{group_of}
 use Rattle.flat_model.specs.State.{State}
 use Rattle.pids_charge.specs.Answers.{refusal_of_fault}
+use Rattle.pids_charge.specs.Lists.{row_at}
 use Rattle.pids_charge.specs.Recount.{IsPlaced, state_of}
 use Rattle.pids_charge.proofs.FlatGroups.{group-at, process-is}
 use Rattle.pids_charge.proofs.FlatTotals.{flat-counts, raised, same_slots, up_each}
 use Rattle.pids_charge.proofs.Changes.{charges_stay, slots_stay}
 use Rattle.pids_charge.proofs.MeterContents.{held_small, found_placed, same_meter}
-use Rattle.pids_charge.proofs.ForkOutcomes.{home_at, fork_asks, not_there, made_recounted, made_state}
-use Rattle.pids_charge.proofs.PeakRises.{noted, noted_of_row}
+use Rattle.pids_charge.proofs.ForkOutcomes.{home_at, fork_asks, not_there, pids_ready, when_out_of_memory, made_recounted, made_state}
+use Rattle.pids_charge.proofs.PeakRises.{noted}
 use Rattle.pids_charge.specs.declared.notes.FullGroup.{FullGroup}
 use Rattle.pids_charge.proofs.charges.Charges.fork_or_count.Goals as goal
 
@@ -29,20 +30,23 @@ returns-in_err-from-clause-first g c =
 pub nearest_full-requires-clause-home : goal.nearest_full-requires-clause-home
 nearest_full-requires-clause-home g c = (found_placed _ _ _ _ _ c.self.invariant.recounted c.args.parent c.in_ok-from.from.now c.in_ok-from.ensures.parent).home
 
-pub nearest_full-requires-clause-slot : goal.nearest_full-requires-clause-slot
-nearest_full-requires-clause-slot g c = (found_placed _ _ _ _ _ c.self.invariant.recounted c.args.parent c.in_ok-from.from.now c.in_ok-from.ensures.parent).slot
+pub nearest_full-requires-clause-row : goal.nearest_full-requires-clause-row
+nearest_full-requires-clause-row g c = (found_placed _ _ _ _ _ c.self.invariant.recounted c.args.parent c.in_ok-from.from.now c.in_ok-from.ensures.parent).row
 
-pub note_up-notes-requires-clause-home : goal.note_up-notes-requires-clause-home
-note_up-notes-requires-clause-home g c = (found_placed _ _ _ _ _ c.self.invariant.recounted c.args.parent c.in_ok-from.from.now c.in_ok-from.ensures.parent).home
-
-pub note_up-notes-requires-clause-slot : goal.note_up-notes-requires-clause-slot
-note_up-notes-requires-clause-slot g c = (found_placed _ _ _ _ _ c.self.invariant.recounted c.args.parent c.in_ok-from.from.now c.in_ok-from.ensures.parent).slot
+pub note_up-notes-requires-clause-group : goal.note_up-notes-requires-clause-group
+note_up-notes-requires-clause-group g c =
+    let placed = found_placed _ _ _ _ _ c.self.invariant.recounted c.args.parent c.in_ok-from.from.now c.in_ok-from.ensures.parent in
+    record { path = c.in_ok-from.from.now.home; there = placed.home; here = placed.row }
 
 pub change_totals-requires-clause-group : goal.change_totals-requires-clause-group
 change_totals-requires-clause-group g c =
     let from = c.in_ok-from.from.now in
     let placed = found_placed _ _ _ _ _ c.self.invariant.recounted c.args.parent from c.in_ok-from.ensures.parent in
-    c.known.ensures.prefixes from.home (take c.in-Some.full.names from.home) placed.home (take_above c.in-Some.full.names from.home)
+    record {
+      path = take c.in-Some.full.names from.home;
+      there = c.known.ensures.prefixes from.home (take c.in-Some.full.names from.home) placed.home (take_above c.in-Some.full.names from.home);
+      here = rw c.in-Some.is at c.nearest_full.ensures.row;
+    }
 
 pub invariant_of-self-in-Some : goal.invariant_of-self-in-Some
 invariant_of-self-in-Some g c =
@@ -51,8 +55,12 @@ invariant_of-self-in-Some g c =
     let a : Path = take c.in-Some.full.names c.in_ok-from.from.now.home in
     let content = g.M.Meter.content c.nearest_full.new.meter in
     let held = g.M.Meter.held c.nearest_full.new.meter in
+    let placed = found_placed _ _ _ _ _ c.self.invariant.recounted c.args.parent c.in_ok-from.from.now c.in_ok-from.ensures.parent in
+    let full_row : c.in-Some.full.row ≡ row_at c.self.inside.tree (take c.in-Some.full.names c.in_ok-from.from.now.home) = rw c.in-Some.is at c.nearest_full.ensures.row in
+    let totals = c.change_totals.ensures (take c.in-Some.full.names c.in_ok-from.from.now.home)
+    (c.known.ensures.prefixes c.in_ok-from.from.now.home (take c.in-Some.full.names c.in_ok-from.from.now.home) placed.home (take_above c.in-Some.full.names c.in_ok-from.from.now.home)) full_row in
     let counts = raised tree c.change_totals.new.tree a
-    (λ q x e. c.requires c.if-not-can_count.false q (group_of x) (group-at c.args.self.now tree es c.self.view_is q x e)) c.change_totals.ensures in
+    (λ q x e. c.requires c.if-not-can_count.false q (group_of x) (group-at c.args.self.now tree es c.self.view_is q x e)) totals in
     let slots = same_slots (λ n. n + 1) tree c.change_totals.new.tree a counts c.known-in-Some.ensures.closed in
     record {
       has_slots = slots_stay tree c.change_totals.new.tree slots g.M.Meter.SLOTS c.self.inside.free.items c.self.invariant.has_slots;
@@ -72,8 +80,12 @@ returns-in-Some-clause-forked g c =
     let at_home = home_at _ _ _ _ _ c.self.invariant.recounted c.args.self.now c.self.view_is c.args.parent from c.in_ok-from.ensures.parent in
     let path_is : c.in_ok-path.path ≡ take names (home_of c.args.self.now c.args.parent) = c.in_ok-path.ensures.group ∙ ap (take names) (sym at_home) in
     let new = process-is c.args.self.now tree es c.self.view_is c.self.invariant.recounted.ordered c.args.child ∙ c.in_ok-from.ensures.child in
+    let placed = found_placed _ _ _ _ _ c.self.invariant.recounted c.args.parent c.in_ok-from.from.now c.in_ok-from.ensures.parent in
+    let full_row : c.in-Some.full.row ≡ row_at c.self.inside.tree (take c.in-Some.full.names c.in_ok-from.from.now.home) = rw c.in-Some.is at c.nearest_full.ensures.row in
+    let totals = c.change_totals.ensures (take c.in-Some.full.names c.in_ok-from.from.now.home)
+    (c.known.ensures.prefixes c.in_ok-from.from.now.home (take c.in-Some.full.names c.in_ok-from.from.now.home) placed.home (take_above c.in-Some.full.names c.in_ok-from.from.now.home)) full_row in
     let counts = raised tree c.change_totals.new.tree a
-    (λ q x e. c.requires c.if-not-can_count.false q (group_of x) (group-at c.args.self.now tree es c.self.view_is q x e)) c.change_totals.ensures in (
+    (λ q x e. c.requires c.if-not-can_count.false q (group_of x) (group-at c.args.self.now tree es c.self.view_is q x e)) totals in (
       fork_asks g.M.Meter.SLOTS g.M.Meter.LEAVES tree es (g.M.Meter.content c.self.inside.meter) (g.M.Meter.held c.self.inside.meter)
           c.self.invariant.recounted c.self.inside.free.items c.self.invariant.has_slots c.known.ensures.prefixes
           c.args.self.now c.self.view_is c.args.parent from c.in_ok-from.ensures.parent c.args.child new (Some names)
@@ -89,13 +101,7 @@ returns-in-Some-clause-forked g c =
 pub charge_noted-requires-clause-group : goal.charge_noted-requires-clause-group
 charge_noted-requires-clause-group g c =
     let placed = found_placed _ _ _ _ _ c.self.invariant.recounted c.args.parent c.in_ok-from.from.now c.in_ok-from.ensures.parent in
-    record { path = c.in_ok-from.from.now.home; there = placed.home; here = placed.slot }
-
-pub charge_noted-requires-clause-noted : goal.charge_noted-requires-clause-noted
-charge_noted-requires-clause-noted g c =
-    let from = c.in_ok-from.from.now in
-    let placed = found_placed _ _ _ _ _ c.self.invariant.recounted c.args.parent from c.in_ok-from.ensures.parent in
-    noted_of_row c.self.inside.tree c.known.ensures.apart from.home placed.home from.slot placed.slot c.note_up-notes.result c.note_up-notes.ensures
+    record { path = c.in_ok-from.from.now.home; there = placed.home; here = placed.row }
 
 pub charge_noted-requires-clause-room : goal.charge_noted-requires-clause-room
 charge_noted-requires-clause-room g c =
@@ -103,7 +109,7 @@ charge_noted-requires-clause-room g c =
     let placed = found_placed _ _ _ _ _ c.self.invariant.recounted c.args.parent from c.in_ok-from.ensures.parent in
     omega (
       arith,
-      c.note_up-notes.ensures.slots.many,
+      (c.note_up-notes.ensures from.home placed.home placed.row).slots.many,
       held_small _ _ _ _ _ c.self.invariant.recounted c.self.invariant.has_slots.shallow,
       c.self.invariant.has_slots.shallow from.home placed.home,
       c.nearest_full.ensures.held,
@@ -129,7 +135,7 @@ invariant_of-self-2 g c =
           c.args.child leaf from placed (not_there c.args.self.now tree es c.self.view_is c.self.invariant.recounted.ordered c.args.child new)
           c.admit.ensures.pid (c.in_ok-peaks.ensures.entries ∙ ap (insert_entry nat_cmp es c.args.child) c.in_ok-process.ensures) c.admit.ensures.ordered
           (omega (arith, c.LEAVES.ensures, g.met.M.Meter.leaves_positive))
-          (c.charge_noted.ensures.content from.home placed.home placed.slot) (omega (arith, c.charge_noted.ensures.held, c.note_up-notes.ensures.slots.many));
+          (c.charge_noted.ensures.content from.home placed.home placed.row) (omega (arith, c.charge_noted.ensures.held, (c.note_up-notes.ensures from.home placed.home placed.row).slots.many));
     }
 
 pub returns-clause-forked : goal.returns-clause-forked
@@ -152,11 +158,29 @@ returns-clause-forked g c =
           c.args.child leaf from placed (not_there c.args.self.now tree es c.self.view_is c.self.invariant.recounted.ordered c.args.child new)
           c.admit.ensures.pid (c.in_ok-peaks.ensures.entries ∙ ap (insert_entry nat_cmp es c.args.child) c.in_ok-process.ensures) c.admit.ensures.ordered
           (omega (arith, c.LEAVES.ensures, g.met.M.Meter.leaves_positive))
-          (c.charge_noted.ensures.content from.home placed.home placed.slot) (omega (arith, c.charge_noted.ensures.held, c.note_up-notes.ensures.slots.many))
+          (c.charge_noted.ensures.content from.home placed.home placed.row) (omega (arith, c.charge_noted.ensures.held, (c.note_up-notes.ensures from.home placed.home placed.row).slots.many))
           c.known.ensures.prefixes c.args.self.now c.self.view_is c.args.parent (home_at _ _ _ _ _ c.self.invariant.recounted c.args.self.now c.self.view_is c.args.parent from c.in_ok-from.ensures.parent)
-          (c.charge_noted.ensures.raised from.home placed.home placed.slot),
+          (c.charge_noted.ensures.raised from.home placed.home placed.row),
       c.in_ok-peaks.ensures.peaks ∙ c.peaks.ensures.same
           ∙ noted c.self.inside.tree c.self.inside.processes c.args.self.now c.self.view_is c.in_ok-from.from.now.home
-          c.note_up-notes.result.peaks c.note_up-notes.ensures.peaks
+          c.note_up-notes.result.peaks (c.note_up-notes.ensures from.home placed.home placed.row).peaks
           ∙ ap (peaks_upward c.args.self.now) (sym (home_at _ _ _ _ _ c.self.invariant.recounted c.args.self.now c.self.view_is c.args.parent from c.in_ok-from.ensures.parent)),
     )
+
+pub returns-then-not-can_count-clause-ready : goal.returns-then-not-can_count-clause-ready
+returns-then-not-can_count-clause-ready g c = λ _. pids_ready c.self.inside.tree c.self.inside.processes c.self.invariant.recounted.ordered c.args.self.now c.self.view_is c.args.parent c.args.child c.in_ok-from.from.now c.in_ok-from.ensures.parent c.in_ok-from.ensures.child
+
+pub returns-in_err-clone-clause-ready : goal.returns-in_err-clone-clause-ready
+returns-in_err-clone-clause-ready g c = when_out_of_memory _ _ (pids_ready c.self.inside.tree c.self.inside.processes c.self.invariant.recounted.ordered c.args.self.now c.self.view_is c.args.parent c.args.child c.in_ok-from.from.now c.in_ok-from.ensures.parent c.in_ok-from.ensures.child)
+
+pub returns-in_err-path-clause-ready : goal.returns-in_err-path-clause-ready
+returns-in_err-path-clause-ready g c = when_out_of_memory _ _ (pids_ready c.self.inside.tree c.self.inside.processes c.self.invariant.recounted.ordered c.args.self.now c.self.view_is c.args.parent c.args.child c.in_ok-from.from.now c.in_ok-from.ensures.parent c.in_ok-from.ensures.child)
+
+pub returns-in_err-shared-clause-ready : goal.returns-in_err-shared-clause-ready
+returns-in_err-shared-clause-ready g c = when_out_of_memory _ _ (pids_ready c.self.inside.tree c.self.inside.processes c.self.invariant.recounted.ordered c.args.self.now c.self.view_is c.args.parent c.args.child c.in_ok-from.from.now c.in_ok-from.ensures.parent c.in_ok-from.ensures.child)
+
+pub returns-in_err-process-clause-ready : goal.returns-in_err-process-clause-ready
+returns-in_err-process-clause-ready g c = when_out_of_memory _ _ (pids_ready c.self.inside.tree c.self.inside.processes c.self.invariant.recounted.ordered c.args.self.now c.self.view_is c.args.parent c.args.child c.in_ok-from.from.now c.in_ok-from.ensures.parent c.in_ok-from.ensures.child)
+
+pub returns-in_err-peaks-clause-ready : goal.returns-in_err-peaks-clause-ready
+returns-in_err-peaks-clause-ready g c = when_out_of_memory _ _ (pids_ready c.self.inside.tree c.self.inside.processes c.self.invariant.recounted.ordered c.args.self.now c.self.view_is c.args.parent c.args.child c.in_ok-from.from.now c.in_ok-from.ensures.parent c.in_ok-from.ensures.child)

@@ -10,7 +10,7 @@ use Rattle.pids_charge.proofs.charges.Charges.new.Goals as goal
 
 pub invariant_of-result : goal.invariant_of-result
 invariant_of-result g c =
-    let x : Process g.row.A.Denot = record { home = c.in_ok-home.home; slot = 0; leaf = 0 } in
+    let x : Process g.row.A.Denot = record { home = c.in_ok-home.home; row = 0; leaf = 0 } in
     let es : c.put_row.new.processes ≡ (1, x) ∷ [] = c.in_ok-put_row.ensures.entries
     ∙ ap (λ (rows : List (Row g.row.A.Denot)). insert_entry nat_cmp rows c.first.result x) c.in_ok-processes.ensures
     ∙ ap (λ k. (k, x) ∷ []) c.first.ensures in
@@ -26,7 +26,7 @@ invariant_of-result g c =
 
 pub returns : goal.returns
 returns g c =
-    let x : Process g.row.A.Denot = record { home = c.in_ok-home.home; slot = 0; leaf = 0 } in
+    let x : Process g.row.A.Denot = record { home = c.in_ok-home.home; row = 0; leaf = 0 } in
     let es : c.put_row.new.processes ≡ (1, x) ∷ [] = c.in_ok-put_row.ensures.entries
     ∙ ap (λ (rows : List (Row g.row.A.Denot)). insert_entry nat_cmp rows c.first.result x) c.in_ok-processes.ensures
     ∙ ap (λ k. (k, x) ∷ []) c.first.ensures in

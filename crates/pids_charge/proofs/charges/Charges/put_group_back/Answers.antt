@@ -20,11 +20,11 @@ pub index-slot-requires : goal.index-slot-requires
 index-slot-requires g c =
     omega (arith, c.self.invariant.has_slots.whole, len-is c.self.inside.tree c.self.inside.processes c.args.self.now c.self.view_is, c.requires.slot, c.len-last.ensures)
 
-pub slot_above-above-requires-clause-parent : goal.slot_above-above-requires-clause-parent
-slot_above-above-requires-clause-parent g c = there-is c.args.self.now c.self.inside.tree c.self.inside.processes c.self.view_is (parent c.args.path.now) c.requires.parent
+pub row_above-above-requires-clause-parent : goal.row_above-above-requires-clause-parent
+row_above-above-requires-clause-parent g c = there-is c.args.self.now c.self.inside.tree c.self.inside.processes c.self.view_is (parent c.args.path.now) c.requires.parent
 
-pub slot_above-above-requires-clause-below_root : goal.slot_above-above-requires-clause-below_root
-slot_above-above-requires-clause-below_root g c = has_names c.self.inside.tree c.self.invariant.has_slots.closed c.args.path.now
+pub row_above-above-requires-clause-below_root : goal.row_above-above-requires-clause-below_root
+row_above-above-requires-clause-below_root g c = has_names c.self.inside.tree c.self.invariant.has_slots.closed c.args.path.now
     (not_mapped group_of (fin.get c.self.inside.tree c.args.path.now) (group-get c.args.self.now c.self.inside.tree c.self.inside.processes c.self.view_is c.args.path.now ∙ c.requires.new))
 
 pub insert-made-requires-clause-few : goal.insert-made-requires-clause-few

@@ -7,17 +7,21 @@ use Rattle.pids_charge.proofs.FlatGroups.{there-is, no_home, moved-is}
 use Rattle.pids_charge.proofs.MeterContents.{held_small, added}
 use Rattle.pids_charge.proofs.charges.Charges.put_process_back.Goals as goal
 
-pub slot_in-slot-requires : goal.slot_in-slot-requires
-slot_in-slot-requires g c = there-is c.args.self.now c.self.inside.tree c.self.inside.processes c.self.view_is c.args.path.now c.requires.group
+pub row_in-row-requires : goal.row_in-row-requires
+row_in-row-requires g c = there-is c.args.self.now c.self.inside.tree c.self.inside.processes c.self.view_is c.args.path.now c.requires.group
 
-pub charge_up-requires-clause-home : goal.charge_up-requires-clause-home
-charge_up-requires-clause-home g c = there-is c.args.self.now c.self.inside.tree c.self.inside.processes c.self.view_is c.args.path.now c.requires.group
+pub charge_up-requires-clause-group : goal.charge_up-requires-clause-group
+charge_up-requires-clause-group g c = record {
+  path = c.args.path.now;
+  there = there-is c.args.self.now c.self.inside.tree c.self.inside.processes c.self.view_is c.args.path.now c.requires.group;
+  here = c.row_in-row.ensures;
+}
 
 pub charge_up-requires-clause-room : goal.charge_up-requires-clause-room
-charge_up-requires-clause-room g c =
+charge_up-requires-clause-room g c = λ p there here.
     let small = held_small _ _ _ _ _ c.self.invariant.recounted c.self.invariant.has_slots.shallow in
-    let there = there-is c.args.self.now c.self.inside.tree c.self.inside.processes c.self.view_is c.args.path.now c.requires.group in
-    omega (arith, small, c.self.invariant.has_slots.shallow c.args.path.now there)
+    let short = c.self.invariant.has_slots.shallow p there in
+    omega (arith, small, short)
 
 pub invariant_of-self : goal.invariant_of-self
 invariant_of-self g c =
@@ -27,7 +31,7 @@ invariant_of-self g c =
 
 pub invariant_of-self-2 : goal.invariant_of-self-2
 invariant_of-self-2 g c =
-    let x : Process g.row.A.Denot = process_in c.args.path.now c.slot_in-slot.result (c.args.who % c.LEAVES.result) in
+    let x : Process g.row.A.Denot = process_in c.args.path.now c.row_in-row.result (c.args.who % c.LEAVES.result) in
     record {
       has_slots = c.self.invariant.has_slots;
       room = c.self.invariant.room;
@@ -37,16 +41,16 @@ invariant_of-self-2 g c =
           (record {
             home = there-is c.args.self.now c.self.inside.tree c.self.inside.processes c.self.view_is c.args.path.now
                 c.requires.group;
-            slot = c.slot_in-slot.ensures;
+            row = c.row_in-row.ensures;
             leaf_below =
                 omega (arith, c.LEAVES.ensures, g.met.M.Meter.leaves_positive);
           })
-          (λ s j. c.charge_up.ensures.content s j)
-          c.charge_up.ensures.held;
+          (λ s j. c.charge_up.ensures.content c.args.path.now (there-is c.args.self.now c.self.inside.tree c.self.inside.processes c.self.view_is c.args.path.now c.requires.group) c.row_in-row.ensures s j)
+          (c.charge_up.ensures.held c.args.path.now (there-is c.args.self.now c.self.inside.tree c.self.inside.processes c.self.view_is c.args.path.now c.requires.group) c.row_in-row.ensures);
     }
 
 pub returns-clause-placed : goal.returns-clause-placed
 returns-clause-placed g c =
-    let x : Process g.row.A.Denot = process_in c.args.path.now c.slot_in-slot.result (c.args.who % c.LEAVES.result) in
+    let x : Process g.row.A.Denot = process_in c.args.path.now c.row_in-row.result (c.args.who % c.LEAVES.result) in
     moved-is c.args.self.now c.self.inside.tree c.self.inside.processes c.self.view_is c.self.invariant.recounted.ordered c.args.pid x
     c.put_copy.new.processes c.args.path.now c.in_ok-put_copy.ensures.entries refl

@@ -13,8 +13,8 @@ use Rattle.pids_charge.proofs.charges.Charges.refuses_fork.Goals as goal
 pub nearest_full-requires-clause-home : goal.nearest_full-requires-clause-home
 nearest_full-requires-clause-home g c = (found_placed _ _ _ _ _ c.self.invariant.recounted c.args.parent c.in-Ok.process.now c.in-Ok.ensures.parent).home
 
-pub nearest_full-requires-clause-slot : goal.nearest_full-requires-clause-slot
-nearest_full-requires-clause-slot g c = (found_placed _ _ _ _ _ c.self.invariant.recounted c.args.parent c.in-Ok.process.now c.in-Ok.ensures.parent).slot
+pub nearest_full-requires-clause-row : goal.nearest_full-requires-clause-row
+nearest_full-requires-clause-row g c = (found_placed _ _ _ _ _ c.self.invariant.recounted c.args.parent c.in-Ok.process.now c.in-Ok.ensures.parent).row
 
 pub returns-in-Err-clause-first : goal.returns-in-Err-clause-first
 returns-in-Err-clause-first g c =

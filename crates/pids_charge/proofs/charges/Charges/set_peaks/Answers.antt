@@ -21,13 +21,13 @@ as_many peaks n m few many =
 pub set_peaks_up-requires-clause-group : goal.set_peaks_up-requires-clause-group
 set_peaks_up-requires-clause-group g c =
     let found = c.find_longest-n.ensures in
-    record { path = take c.find_longest-n.result.0 c.args.path.now; there = found.group; here = found.slot }
+    record { path = take c.find_longest-n.result.0 c.args.path.now; there = found.group; here = found.row }
 
 pub set_peaks_up-requires-clause-many : goal.set_peaks_up-requires-clause-many
 set_peaks_up-requires-clause-many g c = λ q there here.
     let found = c.find_longest-n.ensures in
     let n = c.find_longest-n.result.0 in
-    let is = c.known.ensures.apart q (take n c.args.path.now) there found.group (sym here ∙ found.slot) in
+    let is = c.known.ensures.apart q (take n c.args.path.now) there found.group (sym here ∙ found.row) in
     as_many c.args.peaks.now n (length c.args.path.now) found.inside c.requires ∙ sym (length-take-le n c.args.path.now found.inside) ∙ ap length (sym is)
 
 -- the peaks of the longest prefix that is a group are set, and a group that there isn't has none
@@ -45,7 +45,7 @@ pub invariant_of-self : goal.invariant_of-self
 invariant_of-self g c =
     let tree = c.self.inside.tree in
     let found = c.find_longest-n.ensures in
-    let sets = whole_set tree c.set_peaks_up.new.tree c.args.path.now c.args.peaks.now c.find_longest-n.result.0 found.inside c.requires found.missing (c.set_peaks_up.ensures (take c.find_longest-n.result.0 c.args.path.now) found.group found.slot) in
+    let sets = whole_set tree c.set_peaks_up.new.tree c.args.path.now c.args.peaks.now c.find_longest-n.result.0 found.inside c.requires found.missing (c.set_peaks_up.ensures (take c.find_longest-n.result.0 c.args.path.now) found.group found.row) in
     let slots = slots_changed (peaked_by c.args.path.now c.args.peaks.now) tree c.set_peaks_up.new.tree sets (λ q attr. refl) c.known-2.ensures.closed in
     record {
       has_slots = slots_stay tree c.set_peaks_up.new.tree slots g.M.Meter.SLOTS c.self.inside.free.items c.self.invariant.has_slots;
@@ -59,6 +59,6 @@ returns g c =
     let tree = c.self.inside.tree in
     let s : State = state_of tree c.self.inside.processes in
     let found = c.find_longest-n.ensures in
-    let sets = whole_set tree c.set_peaks_up.new.tree c.args.path.now c.args.peaks.now c.find_longest-n.result.0 found.inside c.requires found.missing (c.set_peaks_up.ensures (take c.find_longest-n.result.0 c.args.path.now) found.group found.slot) in
+    let sets = whole_set tree c.set_peaks_up.new.tree c.args.path.now c.args.peaks.now c.find_longest-n.result.0 found.inside c.requires found.missing (c.set_peaks_up.ensures (take c.find_longest-n.result.0 c.args.path.now) found.group found.row) in
     flat_changed (peaked_by c.args.path.now c.args.peaks.now) tree c.set_peaks_up.new.tree sets (set_peak c.args.path.now c.args.peaks.now) (λ q attr e. refl) s.home
     ∙ ap (λ (t : State). set_peaks c.args.path.now c.args.peaks.now t) c.self.view_is

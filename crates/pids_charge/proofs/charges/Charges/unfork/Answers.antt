@@ -27,14 +27,14 @@ uncharge_up-requires-clause-charged g c = one_there _ _ _ _ _ c.self.invariant.r
 pub set_list_up-requires-clause-group : goal.set_list_up-requires-clause-group
 set_list_up-requires-clause-group g c =
     let placed = found_placed _ _ _ _ _ c.self.invariant.recounted c.args.pid c.in-Some.process (sym c.take_row.ensures.value ∙ c.in-Some.is) in
-    record { path = c.in-Some.process.home; there = placed.home; here = placed.slot }
+    record { path = c.in-Some.process.home; there = placed.home; here = placed.row }
 
 pub set_list_up-requires-clause-many : goal.set_list_up-requires-clause-many
 set_list_up-requires-clause-many g c = λ q there here.
     let found = sym c.take_row.ensures.value ∙ c.in-Some.is in
     let placed = found_placed _ _ _ _ _ c.self.invariant.recounted c.args.pid c.in-Some.process found in
     let at_home = home_at _ _ _ _ _ c.self.invariant.recounted c.args.self.now c.self.view_is c.args.pid c.in-Some.process found in
-    c.requires.many ∙ ap length (at_home ∙ c.known.ensures.apart c.in-Some.process.home q placed.home there (sym placed.slot ∙ here))
+    c.requires.many ∙ ap length (at_home ∙ c.known.ensures.apart c.in-Some.process.home q placed.home there (sym placed.row ∙ here))
 
 pub set_list_up-requires-clause-few : goal.set_list_up-requires-clause-few
 set_list_up-requires-clause-few g c =
@@ -49,7 +49,7 @@ invariant_of-self g c =
     let process = c.in-Some.process in
     let found = sym c.take_row.ensures.value ∙ c.in-Some.is in
     let placed = found_placed _ _ _ _ _ c.self.invariant.recounted c.args.pid process found in
-    let slots = slots_changed (peaked_by process.home c.args.peaks.now) tree c.set_list_up.new.tree (c.set_list_up.ensures process.home placed.home placed.slot) (λ q attr. refl) c.known-3.ensures.closed in
+    let slots = slots_changed (peaked_by process.home c.args.peaks.now) tree c.set_list_up.new.tree (c.set_list_up.ensures process.home placed.home placed.row) (λ q attr. refl) c.known-3.ensures.closed in
     let left = taken _ _ _ _ _ c.self.invariant.recounted c.args.pid process c.take_row.new.processes
     (g.M.Meter.content c.uncharge_up.new.meter) (g.M.Meter.held c.uncharge_up.new.meter)
     found c.take_row.ensures.entries c.take_row.ensures.ordered c.uncharge_up.ensures.content c.uncharge_up.ensures.held in
@@ -71,5 +71,5 @@ returns g c =
     let left : State = state_of tree c.take_row.new.processes in
     let gone = exited-is c.args.pid c.self.inside.processes c.take_row.new.processes c.self.invariant.recounted.ordered c.take_row.ensures.ordered
     c.take_row.ensures.entries tree c.args.self.now c.self.view_is in
-    flat_changed (peaked_by process.home peaks) tree c.set_list_up.new.tree (c.set_list_up.ensures process.home placed.home placed.slot) (set_peak process.home peaks) (λ q attr e. refl) left.home
+    flat_changed (peaked_by process.home peaks) tree c.set_list_up.new.tree (c.set_list_up.ensures process.home placed.home placed.row) (set_peak process.home peaks) (λ q attr e. refl) left.home
     ∙ (λ i. set_peaks (sym at_home i) peaks (gone i))

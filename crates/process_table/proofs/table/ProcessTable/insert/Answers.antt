@@ -16,7 +16,7 @@ returns-in_err-grow-2-clause-ordered g c = table_ascends c.grow.new.self
 pub returns-clause-old : goal.returns-clause-old
 returns-clause-old g c =
     if_ok c.put_in.result (λ o h. h ∙ ap process_of (c.grow.ensures.same c.args.pid)
-    ∙ sym (get_is c.self.inside.pages c.self.inside.slots c.self.invariant c.args.self.now c.self.view_is c.args.pid))
+    ∙ sym (get_is c.self.inside.pages c.self.inside.members c.self.invariant c.args.self.now c.self.view_is c.args.pid))
     c.put_in.ensures.before
 
 pub returns-clause-entries : goal.returns-clause-entries

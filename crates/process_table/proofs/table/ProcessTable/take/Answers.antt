@@ -6,7 +6,7 @@ use Rattle.process_table.proofs.Tables.{get_is, table_taken, table_ascends}
 use Rattle.process_table.proofs.table.ProcessTable.take.Goals as goal
 
 pub returns-clause-value : goal.returns-clause-value
-returns-clause-value g c = c.take_out.ensures.before ∙ sym (get_is c.self.inside.pages c.self.inside.slots c.self.invariant c.args.self.now c.self.view_is c.args.pid)
+returns-clause-value g c = c.take_out.ensures.before ∙ sym (get_is c.self.inside.pages c.self.inside.members c.self.invariant c.args.self.now c.self.view_is c.args.pid)
 
 pub returns-clause-entries : goal.returns-clause-entries
 returns-clause-entries g c = table_taken c.self.inside.pages c.take_out.new.pages c.args.pid c.take_out.ensures.after ∙ ap (remove_entry (is_at (nat_cmp c.args.pid))) c.self.view_is

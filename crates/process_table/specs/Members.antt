@@ -1,9 +1,9 @@
--- The pids of each slot.
+-- The pids of each row.
 use Rattle.std.specs.Prelude.{ℕ, ◌+◌, ◌<◌, ◌≤◌, ◌≡◌, ◌≢◌, List, [], ◌∷◌, Option, Some, None, length, slice_index}
 use Rattle.std.specs.List.{slice_index_or}
 use Rattle.std.specs.List.Sorted.{IsPermutation}
 
--- the pids of a slot
+-- the pids of a row
 abbrev pub list_at : List (List ℕ) → ℕ → List ℕ
 list_at lists s = slice_index_or lists s []
 

@@ -1,7 +1,7 @@
-//! The pids of the processes of each slot.
+//! The pids of the processes of each row.
 
 ghost use Rattle.std.specs.Prelude.{◌≡◌, ◌≢◌, ℕ, ◌<◌, [], ◌∷◌, ◌++◌, IfOk, OnOk, OnErr, eqb, if◌then◌else◌, length};
-ghost use Rattle.process_table.specs.SlotPids.{list_at, IsRead, HasLeft};
+ghost use Rattle.process_table.specs.Members.{list_at, IsRead, HasLeft};
 
 use std::alloc::{AllocError, Allocator};
 use std::marker::Model;
@@ -17,7 +17,7 @@ fn read(pids: &[u32], place: usize) -> Option<u32>
     }
 }
 
-// The pids of the processes of one slot, in no order.
+// The pids of the processes of one row, in no order.
 #[derive(Drop)]
 struct Members<A: Allocator + Clone> {
     pids: Vec<u32, A>,
@@ -73,13 +73,13 @@ impl<A: Allocator + Clone> Members<A> {
     }
 }
 
-// The lists of pids for the slots up to the greatest one that has been used.
+// The lists of pids for the rows up to the greatest one that has been used.
 #[derive(Drop)]
-pub(crate) struct Slots<A: Allocator + Clone> {
+pub(crate) struct RowMembers<A: Allocator + Clone> {
     lists: Vec<Members<A>, A>,
 }
 
-impl<A: Allocator + Clone> Model for Slots<A> {
+impl<A: Allocator + Clone> Model for RowMembers<A> {
     ghost use Rattle.std.specs.Prelude.{ℕ, List};
 
     ghost Value = { List (List ℕ) };
@@ -87,12 +87,12 @@ impl<A: Allocator + Clone> Model for Slots<A> {
     ghost view = { λ s. s.lists.items };
 }
 
-impl<A: Allocator + Clone> Slots<A> {
+impl<A: Allocator + Clone> RowMembers<A> {
     // No lists. Allocates nothing.
-    pub(crate) fn new(alloc: A) -> Slots<A>
+    pub(crate) fn new(alloc: A) -> RowMembers<A>
         ensures { result ≡ [] }
     {
-        Slots {
+        RowMembers {
             lists: Vec::new(alloc),
         }
     }
@@ -103,53 +103,53 @@ impl<A: Allocator + Clone> Slots<A> {
         self.lists.len()
     }
 
-    // Makes the list of a slot.
-    pub(crate) fn grow(&mut self, alloc: &A, slot: u16) -> Result<(), AllocError>
-        ensures listed { OnOk result (slot < length self.new) }
+    // Makes the list of a row.
+    pub(crate) fn grow(&mut self, alloc: &A, row: u16) -> Result<(), AllocError>
+        ensures listed { OnOk result (row < length self.new) }
         ensures same { (s : ℕ) → list_at self.new s ≡ list_at self.old s }
     {
-        while self.lists.len() <= usize::from(slot) {
+        while self.lists.len() <= usize::from(row) {
             self.lists.push(Members::new(alloc.clone()?))?;
         }
         Ok(())
     }
 
-    // Adds a pid to a slot, and returns its index.
-    pub(crate) fn push(&mut self, slot: u16, pid: u32) -> Result<usize, AllocError>
-        requires { slot < length self.old }
-        ensures place { IfOk result (λ n. n ≡ length (list_at self.old slot)) }
-        ensures pushed { OnOk result ((s : ℕ) → list_at self.new s ≡ (if eqb slot s then list_at self.old s ++ pid ∷ [] else list_at self.old s)) }
+    // Adds a pid to a row, and returns its index.
+    pub(crate) fn push(&mut self, row: u16, pid: u32) -> Result<usize, AllocError>
+        requires { row < length self.old }
+        ensures place { IfOk result (λ n. n ≡ length (list_at self.old row)) }
+        ensures pushed { OnOk result ((s : ℕ) → list_at self.new s ≡ (if eqb row s then list_at self.old s ++ pid ∷ [] else list_at self.old s)) }
         ensures kept { OnErr result ((s : ℕ) → list_at self.new s ≡ list_at self.old s) }
     {
-        self.lists[usize::from(slot)].push(pid)
+        self.lists[usize::from(row)].push(pid)
     }
 
-    // Removes the pid at an index of a slot. Returns the pid that moves to that index, if one does.
-    pub(crate) fn leave(&mut self, slot: u16, place: usize) -> Option<u32>
-        requires { place < length (list_at self.old slot) }
-        ensures left { HasLeft (list_at self.old slot) place result (list_at self.new slot) }
-        ensures others { (s : ℕ) → s ≢ slot → list_at self.new s ≡ list_at self.old s }
+    // Removes the pid at an index of a row. Returns the pid that moves to that index, if one does.
+    pub(crate) fn leave(&mut self, row: u16, place: usize) -> Option<u32>
+        requires { place < length (list_at self.old row) }
+        ensures left { HasLeft (list_at self.old row) place result (list_at self.new row) }
+        ensures others { (s : ℕ) → s ≢ row → list_at self.new s ≡ list_at self.old s }
     {
-        self.lists[usize::from(slot)].leave(place)
+        self.lists[usize::from(row)].leave(place)
     }
 
-    // A pid of the slot, if there is one.
-    pub(crate) fn first(&self, slot: usize) -> Option<u32>
-        ensures { IsRead (list_at self.now slot) 0 result }
+    // A pid of the row, if there is one.
+    pub(crate) fn first(&self, row: usize) -> Option<u32>
+        ensures { IsRead (list_at self.now row) 0 result }
     {
-        if slot < self.lists.len() {
-            self.lists[slot].first()
+        if row < self.lists.len() {
+            self.lists[row].first()
         } else {
             None
         }
     }
 
-    // The pids of a slot, in no order.
-    pub(crate) fn pids(&self, slot: usize) -> &[u32]
-        ensures { result.now ≡ list_at self.now slot }
+    // The pids of a row, in no order.
+    pub(crate) fn pids(&self, row: usize) -> &[u32]
+        ensures { result.now ≡ list_at self.now row }
     {
-        if slot < self.lists.len() {
-            self.lists[slot].as_slice()
+        if row < self.lists.len() {
+            self.lists[row].as_slice()
         } else {
             &[]
         }

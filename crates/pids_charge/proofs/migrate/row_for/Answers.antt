@@ -2,7 +2,7 @@ use Rattle.std.proofs.Common.{is_some, refl, sym, ap, ◌∙◌}
 use Rattle.flat_model.specs.State.{State}
 use Rattle.pids_charge.specs.Recount.{state_of}
 use Rattle.pids_charge.proofs.FlatGroups.{group-is, process-is, move_no_group, move_no_process, move_allowed}
-use Rattle.pids_charge.proofs.migrate.slot_for.Goals as goal
+use Rattle.pids_charge.proofs.migrate.row_for.Goals as goal
 
 pub returns-in_default-clause-first : goal.returns-in_default-clause-first
 returns-in_default-clause-first g c =

@@ -3,8 +3,8 @@ use Rattle.std.specs.List.{swap_remove}
 use Rattle.std.specs.List.Sorted.{IsPermutation}
 use Rattle.std.proofs.lemmas.List.{get_or_read}
 use Rattle.std.proofs.lemmas.List.Sorted.{IsPermutation-swap_remove}
-use Rattle.process_table.specs.SlotPids.{HasLeft, IsRead}
-use Rattle.process_table.proofs.slots.Members.leave.Goals as goal
+use Rattle.process_table.specs.Members.{HasLeft, IsRead}
+use Rattle.process_table.proofs.members.Members.leave.Goals as goal
 
 left_by : (xs ys : List ℕ) (place x : ℕ) (moved : Option ℕ) → place < length xs → x ≡ get_or xs place x → ys ≡ swap_remove xs place x → length ys + 1 ≡ length xs
     → ((d : ℕ) → place + 1 < length xs → get_or ys place d ≡ get_or xs (length xs - 1) d) → ((k d : ℕ) → k ≢ place → k + 1 < length xs → get_or ys k d ≡ get_or xs k d)
