@@ -66,6 +66,7 @@ static const char help[] =
 	"then names it.\n";
 
 /* A closed standard stream becomes /dev/null; else the next opened file would get its number. */
+/* Before any other file is opened: a trace or a socket must not become standard output. */
 static bool have_streams(void)
 {
 	int fd;
@@ -90,6 +91,7 @@ static int show(const char *text)
 	enum { FAILED = 1, NOBODY_READS = 141 };
 	if (fputs(text, stdout) >= 0 && fflush(stdout) == 0)
 		return 0;
+	/* EPIPE comes instead of SIGPIPE only where the caller ignores that. */
 	int fault = errno;
 	if (fault == EPIPE)
 		return NOBODY_READS;
@@ -97,6 +99,7 @@ static int show(const char *text)
 	return FAILED;
 }
 
+/* The status 2, as for all that is refused before it begins. */
 static int bad(void)
 {
 	fprintf(stderr, "makhloeum: bad command line; see makhloeum --help\n");
@@ -104,6 +107,7 @@ static int bad(void)
 }
 
 /* Reads the options from argv[at] on. Returns the index after them, or -1. */
+/* Each option is stored in place: the words stay the caller's. */
 static int read_options(int argc, char **argv, int at, struct wishes *w)
 {
 	struct {
@@ -128,6 +132,7 @@ static int read_options(int argc, char **argv, int at, struct wishes *w)
 			return at + 1;
 		for (i = 0; i < count && strcmp(argv[at], options[i].name); i++)
 			;
+		/* An unknown option, or one whose word is missing. */
 		if (i == count || (options[i].word && at + 1 == argc))
 			return -1;
 		if (options[i].word)
@@ -174,6 +179,7 @@ static int subcommand_start(char **words)
 	snprintf(program, sizeof program, "makhloeum-%s", name);
 	find_folder(folder, sizeof folder);
 	words[0] = program;
+	/* execv returns only if it fails: then the next place is tried. */
 	for (size_t i = 0; i < sizeof places / sizeof *places && folder[0]; i++) {
 		snprintf(file, sizeof file, "%s%s%s", folder, places[i], program);
 		execv(file, words);
@@ -186,6 +192,7 @@ static int subcommand_start(char **words)
 	return UNKNOWN;
 }
 
+/* Help, version and the separate programs come before have_streams: they open nothing. */
 int main(int argc, char **argv)
 {
 	struct wishes w = { 0 };
@@ -211,6 +218,8 @@ int main(int argc, char **argv)
 	if (at < 0 || at == argc || w.as_root || w.users || w.no_threads)
 		return bad();
 	const char *directory = argv[at];
+	/* `mount` takes options before and behind the directory, `run` none behind the program, whose
+	   options these are. */
 	at = read_options(argc, argv, at + 1, &w);
 	return at != argc || w.as_root || w.users || w.no_threads ? bad() : mount_directory(directory, &w);
 }

@@ -12,10 +12,13 @@ bool advance_begin(void);
 /* The server's part. Whether the process has fewer than it may have; a reservation for it, which returns one that nobody can use
    any more, or 0. */
 bool advance_wants(pid_t process, bool is_thread);
+/* Both are called with the engine's lock. */
 unsigned advance_give(pid_t process, bool is_thread, unsigned reservation);
-/* The next one that nobody has taken, of any process. 0: there is none. */
+/* The next one that nobody has taken, of any process. 0: there is none. The server calls it, with
+   the engine's lock. */
 unsigned advance_take_any(void);
-/* The part of both: one of this process, or 0. */
+/* The part of both: one of this process, or 0. The supervisor takes one before a call, the server
+   at the end of a process. */
 unsigned advance_take(pid_t process, bool is_thread);
 
 #endif

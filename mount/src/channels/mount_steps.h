@@ -6,7 +6,8 @@
 /* SET: an option; NAME_SOURCE: its source; CREATE_ALONE: only if there is no such file system; PICK: it is of one that is mounted. */
 enum mount_step { SET, NAME_SOURCE, CREATE, CREATE_ALONE, RECONFIGURE, MOUNT, PICK };
 
-/* It is written to the file. Nothing else is. */
+/* It is written to the file. Nothing else is. The mark tells it from a program's own write to such
+   a file, which is refused. */
 struct mount_step_message {
 	char mark[15];
 	unsigned char step;

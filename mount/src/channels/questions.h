@@ -19,16 +19,21 @@
 enum what { RESERVE, BORN, CANCEL, STOPPED, ORDER, PREPARE, NAMESPACE, CATCH_UP, EVENTS };
 
 /* May the parent make a child, or a thread? In its group, or in the one that is named. */
+/* An answer that allows it carries a reservation. It counts against the limits until BORN or
+   CANCEL names it. */
 struct reserve_question {
 	pid_t parent;
 	bool is_thread;
 };
 
+/* The child exists and has not run. The answer says whether it may run, and whether it stays at
+   its first stop. */
 struct born_question {
 	unsigned reservation;
 	pid_t child;
 };
 
+/* The call has made no child. */
 struct cancel_question {
 	unsigned reservation;
 };
@@ -52,6 +57,7 @@ struct namespace_question {
 
 /* Only the beginning of a question is sent, up to the end of its text. */
 struct question {
+	/* Which member of the union it has. */
 	enum what what;
 	union {
 		struct reserve_question reserve;
@@ -61,12 +67,14 @@ struct question {
 		struct prepare_question prepare;
 		struct namespace_question made;
 	};
+	/* Of RESERVE and PREPARE: whether `group` is meant. Else the process's own group is. */
 	bool names_group;
 	char group[PATH_MAX_SAID];
 };
 
 enum { WITHOUT_TEXT = offsetof(struct question, group) + 1 };
 
+/* Which member it has follows from the question, since only one question is under way. */
 struct reply {
 	int fault; /* 0 or -errno */
 	union {

@@ -5,9 +5,10 @@
 
 enum { ROOM = 256 };
 
-/* A ring: one process writes, and one reads, with the engine's lock. The numbers of the next place count on, and wrap around. It needs
-   no lock between the two. If the server is killed, nobody reads, and the supervisor finds that out by its socket when the ring is
-   full. */
+/* A ring: one process writes, and one reads, with the engine's lock. The numbers of the next place
+   count on, and wrap around. It needs no lock between the two. If the server is killed, nobody
+   reads, and the supervisor finds that out by its socket when the ring is full. Only the
+   supervisor writes `written`, only the server `read` and `kills`. */
 static struct shared {
 	atomic_uint written, read;
 	atomic_bool kills;
@@ -26,6 +27,8 @@ bool supervisor_events_begin(void)
 bool supervisor_events_put(unsigned reservation, pid_t thread)
 {
 	unsigned next = atomic_load(&shared->written);
+	/* The difference is right also after one of the two has wrapped around, since both are
+	   unsigned. */
 	if (next - atomic_load(&shared->read) == ROOM)
 		return false;
 	shared->all[next % ROOM] = (struct supervisor_event){ reservation, thread };
@@ -36,6 +39,7 @@ bool supervisor_events_put(unsigned reservation, pid_t thread)
 
 bool supervisor_events_take(unsigned *reservation, pid_t *thread)
 {
+	/* A mount without a run has no supervisor, and so no ring. */
 	unsigned next = shared ? atomic_load(&shared->read) : 0;
 	if (!shared || next == atomic_load(&shared->written))
 		return false;

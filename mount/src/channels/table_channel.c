@@ -7,11 +7,13 @@
 
 static int ends[2] = { -1, -1 };
 
+/* A message and its descriptors stay together: SEQPACKET. */
 bool table_channel_begin(void)
 {
 	return socketpair(AF_UNIX, SOCK_SEQPACKET | SOCK_CLOEXEC, 0, ends) == 0;
 }
 
+/* Each side closes the other's end: a peer that has ended is then seen as a closed socket. */
 void table_channel_be(int which)
 {
 	close(ends[1 - which]);
@@ -23,6 +25,7 @@ int table_channel_socket(void)
 	return ends[TABLE_CHANNEL_HELPER];
 }
 
+/* The counted half has 26 bits: the whole number is always positive. */
 enum { LOWER = 32, COUNTED = (1 << 26) - 1 };
 
 long table_channel_count_of(long number)
@@ -30,6 +33,7 @@ long table_channel_count_of(long number)
 	return number >> LOWER;
 }
 
+/* Several threads of the helper may call it at once, so the count is atomic. */
 long table_channel_number(void)
 {
 	static atomic_uint last;

@@ -11,8 +11,9 @@ void table_channel_be(int which);
 /* The end of the helper. */
 int table_channel_socket(void);
 
-/* The number of a new table. It counts on in its upper half, and nobody can guess the other: else a program could open and close a
-   table before the helper has opened it. */
+/* The number of a new table. It counts on in its upper half, and nobody can guess the other: else
+   a program could open and close a table before the helper has opened it. Any thread of the helper
+   may call it. */
 long table_channel_number(void);
 /* How many tables were numbered before it. */
 long table_channel_count_of(long number);
@@ -24,7 +25,8 @@ struct given_table {
 	unsigned space;
 	char what[16];
 };
-/* The server takes one; false if there is none. */
+/* The server takes one; false if there is none. It never waits. The caller owns the two
+   descriptors. */
 bool table_channel_take(struct given_table *out, int fds[2]);
 
 #endif

@@ -7,6 +7,9 @@
 #include <sys/syscall.h>
 #include <unistd.h>
 
+/* A program may mount something on a group's directory or file: NO_XDEV then fails with EXDEV.
+   BENEATH refuses a path that begins with a slash, so the first slash is left out, and the root is
+   ".". */
 int beneath_open(int root, const char *path, int flags)
 {
 	struct open_how how = { .flags = (uint64_t)(unsigned)(flags | O_CLOEXEC),
@@ -28,6 +31,7 @@ bool beneath_is_same_system(const struct mount_id *a, const struct mount_id *b)
 	return a->major == b->major && a->minor == b->minor;
 }
 
+/* The number identifies a mount as long as a descriptor keeps it. Later another mount may get it. */
 bool beneath_is_same_mount(const struct mount_id *a, const struct mount_id *b)
 {
 	return beneath_is_same_system(a, b) && a->mount == b->mount;

@@ -5,7 +5,8 @@
 
 #include <stdbool.h>
 
-/* Opens /a/b below the root; -1 with errno. */
+/* Opens /a/b below the root; -1 with errno. `flags` as of open; the descriptor belongs to the
+   caller, and closes at an exec. */
 int beneath_open(int root, const char *path, int flags);
 
 /* Which mount a descriptor is in, also one with O_PATH. */

@@ -9,6 +9,9 @@
 #include <stdlib.h>
 #include <unistd.h>
 
+/* The block may end at a failure, whose errno the caller reports: a cleanup must not replace it.
+   Linux releases the descriptor even if close fails, so the result tells nothing that could be
+   mended. */
 static inline void close_at(const int *fd)
 {
 	int before = errno;
@@ -45,6 +48,7 @@ static inline void close_directory_at(DIR **directory)
 #define cleanup_stream __attribute__((cleanup(close_stream_at)))
 #define cleanup_directory __attribute__((cleanup(close_directory_at)))
 
+/* The variable no longer owns what it had: the caller does, and closes or frees it. */
 static inline int steal_fd(int *fd)
 {
 	int taken = *fd;

@@ -11,6 +11,7 @@ extern const char cgroup_mount[], cgroup_source[];
    name. */
 extern const char group_attribute[];
 
+/* Bytes of a path with its zero byte. */
 enum { PATH_MAX_SAID = PATH_BYTES + 1 };
 
 /* The group above; the root's is the root. */

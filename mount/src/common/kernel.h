@@ -31,11 +31,15 @@
 #define PIDFD_GET_UTS_NAMESPACE _IO(0xFF, 10)
 #endif
 
+/* A page has at least this size. So a read of the program's memory that ends at such a border does
+   not reach into a page that is not there. */
 enum { PAGE = 4096 };
 
-/* What the kernel knows of a signal's action. The C library's own calls leave out two signals that it keeps for itself. */
+/* What the kernel knows of a signal's action. The C library's own calls leave out two signals that
+   it keeps for itself. So rt_sigaction is called directly, with a mask of 64 bits. */
 enum { SIGNALS = 64 };
 
+/* The kernel's own form on x86-64 and aarch64. */
 struct signal_action {
 	void (*handler)(int);
 	unsigned long flags;
@@ -54,6 +58,7 @@ static inline bool is_pid(pid_t number)
 	return number > 0 && number < PIDS;
 }
 
+/* Since an unknown start. It never goes back when somebody sets the time. */
 static inline long long milliseconds(void)
 {
 	struct timespec t;
@@ -72,7 +77,8 @@ static inline int open_thread(pid_t thread)
 	return (int)syscall(SYS_pidfd_open, thread, PIDFD_THREAD);
 }
 
-/* Whether the process of a descriptor has ended, and its parent has waited for it. */
+/* Whether the process of a descriptor has ended, and its parent has waited for it. Signal 0 only
+   asks. A zombie still accepts it; ESRCH comes once the parent has waited. */
 static inline bool was_waited_for(int process)
 {
 	return syscall(SYS_pidfd_send_signal, process, 0, NULL, 0) && errno == ESRCH;
@@ -85,7 +91,8 @@ static inline long look_for_memory(pid_t process)
 	return syscall(SYS_move_pages, process, 0UL, NULL, NULL, NULL, 0);
 }
 
-/* What the kernel knows of an open file, also one with O_PATH, without a request to its file system. */
+/* What the kernel knows of an open file, also one with O_PATH, without a request to its file
+   system. So it never blocks, whatever file system it is. */
 static inline bool describe(int fd, unsigned what, struct statx *out)
 {
 	return statx(fd, "", AT_EMPTY_PATH | AT_STATX_DONT_SYNC | AT_NO_AUTOMOUNT, what, out) == 0;

@@ -6,8 +6,9 @@
 #include <stddef.h>
 #include <sys/types.h>
 
-/* A descriptor of a thread's PID namespace. -1: it is that of this process, or the kernel does not translate numbers (before
-   Linux 6.11). It may wait for the program: so it is asked without the engine's lock. */
+/* A descriptor of a thread's PID namespace. -1: it is that of this process, or the kernel does not
+   translate numbers (before Linux 6.11). It may wait for the program: so it is asked without the
+   engine's lock. The caller closes it. */
 int namespaces_pid_of(pid_t thread);
 /* The number here of whom that namespace calls so; 0: it has no such process. */
 pid_t namespaces_pid_here(int space, pid_t number);

@@ -6,10 +6,15 @@
 #include <sys/resource.h>
 #include <unistd.h>
 
+/* A run's supervisor has three: companion, server and helper. */
 enum { MOST = 4 };
 
+/* The children that were not waited for. 0 is a free place. Only the process that made them uses
+   it, in one thread. */
 static pid_t all[MOST];
 
+/* If the parent ends before the prctl, no signal comes. Then this process has another parent
+   already: so the question follows the request. */
 bool own_processes_die_with(pid_t parent)
 {
 	return prctl(PR_SET_PDEATHSIG, SIGKILL, 0, 0, 0) == 0 && getppid() == parent;
@@ -33,6 +38,7 @@ static void raise_limit(int which)
 	struct rlimit limit;
 	if (getrlimit(which, &limit))
 		return;
+	/* The hard limit stays: only a privileged process may raise it. */
 	limit.rlim_cur = limit.rlim_max;
 	setrlimit(which, &limit);
 }
@@ -66,6 +72,7 @@ void own_processes_gone(pid_t child)
 	replace(child, 0);
 }
 
+/* A number that is not in the list may be another process's by now: it gets no signal. */
 void own_processes_kill(pid_t child)
 {
 	for (size_t i = 0; i < MOST; i++)

@@ -13,14 +13,16 @@ bool own_processes_die_with(pid_t parent);
 /* From now on this process ends by no signal that another sends, but SIGKILL. A program or a manager may send one to all processes. */
 void own_processes_ignore_signals(void);
 
-/* Lets this process have as many descriptors as it may. */
+/* Lets this process have as many descriptors as it may. The server has a descriptor for each
+   zombie, open table and adopted process. */
 void own_processes_raise_files(void);
 /* .. and files as long. */
 void own_processes_raise_sizes(void);
 
 /* In the process that makes them. The child was made. */
 void own_processes_add(pid_t child);
-/* The child was waited for: another process may have its number from now on. */
+/* The child was waited for: another process may have its number from now on. It is called right
+   after the wait, in the same thread: no signal goes to the number in between. */
 void own_processes_gone(pid_t child);
 /* Kills it, unless it was waited for. */
 void own_processes_kill(pid_t child);

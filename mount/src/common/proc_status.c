@@ -6,6 +6,9 @@
 #include <sys/mount.h>
 #include <sys/syscall.h>
 
+/* The file may be longer than `some`, since a list of groups or of processors has no bound. So it
+   is read in parts, and a line may begin in one part and end in the next. A value that is longer
+   than `out` is cut. */
 bool proc_status_line(pid_t pid, const char *key, char *out, size_t size)
 {
 	char path[40], some[4096];
@@ -34,6 +37,8 @@ bool proc_status_line(pid_t pid, const char *key, char *out, size_t size)
 	return false;
 }
 
+/* Values are separated by tabs. The last one of NSpid and NStgid is the number in the innermost
+   namespace, and the last one of Uid and Gid the one that the kernel uses for files. */
 long proc_status_number(pid_t pid, const char *key)
 {
 	char line[512];
@@ -41,6 +46,7 @@ long proc_status_number(pid_t pid, const char *key)
 	return last ? strtol(last + 1, NULL, 10) : -1;
 }
 
+/* /proc may return less than was asked for: only 0 is the end of the file. */
 ssize_t proc_status_text(const char *path, char *out, size_t size)
 {
 	size_t done = 0;
@@ -52,6 +58,8 @@ ssize_t proc_status_text(const char *path, char *out, size_t size)
 	return fd < 0 || n < 0 ? -errno : (ssize_t)done;
 }
 
+/* The copy needs the right to mount, which the processes of a run have in their namespace. Without
+   that right /proc itself is used. */
 bool proc_status_enter(void)
 {
 	cleanup_fd int proc = (int)syscall(SYS_open_tree, AT_FDCWD, "/proc",

@@ -9,7 +9,8 @@
 /* Makes /proc the working directory of this process. With --root the program may mount something over /proc, so it is a copy of
    the mount, which no other process has. */
 bool proc_status_enter(void);
-/* What follows a key in PID/status; false if there is no such line or no such process. */
+/* What follows a key in PID/status; false if there is no such line or no such process. The key
+   ends in a colon. */
 bool proc_status_line(pid_t pid, const char *key, char *out, size_t size);
 /* The last number there; -1 likewise. */
 long proc_status_number(pid_t pid, const char *key);

@@ -14,16 +14,19 @@
 #include <sys/wait.h>
 #include <unistd.h>
 
+/* TRIES: how often a change is tried that finds no memory, every 10 milliseconds. */
 enum { TRIES = 100, TOLD_MAX = 2 * PATH_MAX_SAID };
 
 struct mounted {
 	const char *at;
 	int root; /* of a run; -1: it is looked up */
 	bool is_known;
+	/* Of the mount with root -1: known from the message of companion_show on. */
 	struct mount_id is;
 };
 
-/* The root of the mount, if that is what is mounted there; -1. */
+/* The root of the mount, if that is what is mounted there; -1. This may wait for whatever file
+   system is mounted there by now. */
 static int look_up(const struct mounted *m)
 {
 	struct mount_id found;
@@ -46,9 +49,11 @@ static int open_file(int root, const char *path)
 	return directory < 0 ? -1 : beneath_open(directory, name, O_PATH | O_NOFOLLOW);
 }
 
-/* What the program mounts or makes there is never reached: the walk starts at the root of the mount and leaves it nowhere.
-   The descriptor that was checked is the file whose time is set. The server leaves out this time, and inotify reports the call
-   only as a modification, since it sets no other time. False: try again. */
+/* What the program mounts or makes there is never reached: the walk starts at the root of the
+   mount and leaves it nowhere. The descriptor that was checked is the file whose time is set. The
+   server leaves out this time, and inotify reports the call only as a modification, since it sets
+   no other time. False: try again. By a path of /proc, since futimens takes no descriptor with
+   O_PATH. */
 static bool touch_once(int root, const struct mount_id *system, const char *path)
 {
 	static const struct timespec times[2] = { { .tv_nsec = UTIME_OMIT }, { .tv_sec = -MARK } };
@@ -63,6 +68,7 @@ static bool touch_once(int root, const struct mount_id *system, const char *path
 	return utimensat(AT_FDCWD, link, times, 0) == 0 || errno != ENOMEM;
 }
 
+/* While it tries again, other changes wait in the socket, and then in the server's queue. */
 static void touch(const struct mounted *m, const char *path)
 {
 	cleanup_fd int found = m->root < 0 ? look_up(m) : -1;
@@ -71,12 +77,15 @@ static void touch(const struct mounted *m, const char *path)
 		usleep(10000); /* there was no memory: nothing tells when there is some */
 }
 
-/* The server has ended. If it was killed, its mount is still there and answers nobody. Any other mount stays. */
+/* The server has ended. If it was killed, its mount is still there and answers nobody. Any other
+   mount stays. ENOTCONN is what a mount answers whose server has ended. */
 static void take_away(const char *mountpoint)
 {
 	struct stat st;
 	if (stat(mountpoint, &st) == 0 || (errno != ENOTCONN && errno != ECONNABORTED))
 		return;
+	/* Others may use it: it goes once nobody does. Without the right to unmount, fusermount3 has
+	   it. */
 	if (umount2(mountpoint, MNT_DETACH) == 0)
 		return;
 	execlp("fusermount3", "fusermount3", "-u", "-q", "-z", "--", mountpoint, (char *)NULL);
@@ -86,10 +95,12 @@ static void serve(int from, struct mounted *m)
 {
 	char told[TOLD_MAX];
 	ssize_t n;
+	/* The server's end is closed when it ends: then recv returns 0. */
 	while ((n = recv(from, told, sizeof told - 1, 0)) > 0) {
 		told[n] = 0;
 		if (told[0] == '/')
 			touch(m, told);
+		/* A message that begins with a zero byte has the mount's number. */
 		else if (n == 1 + sizeof m->is) {
 			memcpy(&m->is, told + 1, sizeof m->is);
 			m->is_known = true;
@@ -99,8 +110,9 @@ static void serve(int from, struct mounted *m)
 		take_away(m->at);
 }
 
-/* A reader that waits for the end of the program's output must not wait for this process; and a descriptor of the server
-   would keep the mount's connection open. */
+/* A reader that waits for the end of the program's output must not wait for this process; and a
+   descriptor of the server would keep the mount's connection open. Beyond the three streams all
+   are closed but two: the socket and the root. */
 static void let_go(int *from, int *root)
 {
 	int null = open("/dev/null", O_RDWR | O_CLOEXEC);
@@ -128,6 +140,7 @@ static void live(int from, const char *mountpoint, int root, pid_t parent, const
 	} else
 		own_processes_ignore_signals();
 	sigprocmask(SIG_SETMASK, mask, NULL); /* it cannot fail: there is such a way */
+	/* The first child ends at once. The second one gets another parent, which waits for it. */
 	if (root < 0 && fork())
 		_exit(0);
 	if (root >= 0 && (!own_processes_die_with(parent) || !proc_status_enter() || !beneath_identify(root, &m.is)))
@@ -163,6 +176,7 @@ bool companion_start(struct companion *out, const char *mountpoint, int root)
 		errno = fault;
 		return false;
 	}
+	/* Only for the first child, which ends at once. */
 	while (root < 0 && waitpid(pid, NULL, 0) < 0 && errno == EINTR)
 		;
 	*out = (struct companion){ ends[1], root < 0 ? -1 : pid };
@@ -176,6 +190,7 @@ bool companion_show(int to, const struct mount_id *which)
 	return send(to, told, sizeof told, MSG_NOSIGNAL) == (ssize_t)sizeof told;
 }
 
+/* EAGAIN: its socket is full. */
 bool companion_tell_now(int to, const char *path)
 {
 	return send(to, path, strlen(path), MSG_NOSIGNAL | MSG_DONTWAIT) >= 0;
@@ -183,6 +198,7 @@ bool companion_tell_now(int to, const char *path)
 
 bool companion_tell(int to, const char *path)
 {
+	/* It waits while the socket is full: so a thread without locks calls it. */
 	while (send(to, path, strlen(path), MSG_NOSIGNAL) < 0) {
 		if (errno != EINTR && errno != ENOBUFS && errno != ENOMEM)
 			return false;

@@ -1,6 +1,8 @@
 #include "engine/engine.h"
 #include "common/bounds.h"
 #include "common/message.h"
+#include "engine/buffer.h"
+#include "engine/engine_queries.h"
 #include "engine/undo_steps.h"
 #include <errno.h>
 #include <makhloeum.h>
@@ -13,20 +15,27 @@
 #include <time.h>
 #include <unistd.h>
 
+/* TIME_MAX: bytes of the comment before a line. FIRST_ANSWER: bytes, more than most answers have.
+   FORGET_AT: records, after which a mount without a history drops them: their memory stays
+   bounded, and a drop costs little for each command. */
 enum { TIME_MAX = 48, FIRST_ANSWER = 16384, FORGET_AT = 1024 };
 
+/* It is no recursive lock: a thread that has it must not take it again. */
 static pthread_mutex_t lock = PTHREAD_MUTEX_INITIALIZER;
 static mk_handle engine;
 static struct trace_file *trace, *answers;
-/* what follows is used with the lock: so is each text that a call returns, which lasts until the next call */
+/* what follows is used with the lock: so is each text that a call returns, which lasts until the
+   next call. `told_long`: the warning that cgreplay refuses the trace was printed. */
 static bool has_history, told_long;
+/* Of each thread: for WANTS_LOCK alone. */
 static _Thread_local bool holds_lock;
 static uint64_t number = 1; /* of the next line that is kept */
 static size_t depth; /* how many commands can be undone: asked once after each line that may change it */
 static char line[LINE_BYTES];
 static size_t line_size;
 static struct timespec started;
-/* where several lines that are one operation began */
+/* where several lines that are one operation began. Only between engine_begin and engine_finish,
+   which one thread calls without giving the lock back. */
 static struct {
 	bool are_open;
 	size_t depth;
@@ -34,29 +43,7 @@ static struct {
 	off_t trace, answers;
 } several;
 
-/* Bytes whose room grows. */
-struct buffer {
-	char *at;
-	size_t size, room;
-};
-
-/* False if out of memory: then nothing has changed. */
-static bool buffer_make_room(struct buffer *b, size_t room)
-{
-	if (room <= b->room)
-		return true;
-	size_t want = b->room ? b->room : 4096;
-	while (want < room)
-		want *= 2;
-	char *at = realloc(b->at, want);
-	if (!at)
-		return false;
-	b->at = at;
-	b->room = want;
-	return true;
-}
-
-static struct buffer answer, text, names, paths, past;
+static struct buffer answer, text;
 
 bool engine_start(struct trace_file *trace_to, struct trace_file *answers_to, bool history)
 {
@@ -64,25 +51,32 @@ bool engine_start(struct trace_file *trace_to, struct trace_file *answers_to, bo
 	answers = answers_to;
 	has_history = history;
 	clock_gettime(CLOCK_MONOTONIC, &started);
-	return buffer_make_room(&answer, FIRST_ANSWER) && buffer_make_room(&text, FIRST_ANSWER) &&
-		buffer_make_room(&paths, FIRST_ANSWER) && buffer_make_room(&past, FIRST_ANSWER) &&
-		buffer_make_room(&names, MK_CHILDREN_MAX) && mk_open(&engine) == MK_DONE;
+	return buffer_make_room(&answer, FIRST_ANSWER) && buffer_make_room(&text, FIRST_ANSWER) && engine_queries_start() &&
+		mk_open(&engine) == MK_DONE;
 }
 
+/* Of the process that calls it: the supervisor frees its copy, and the server has its own. */
 void engine_end(void)
 {
 	mk_close(&engine);
 	free(answer.at);
 	free(text.at);
-	free(names.at);
-	free(paths.at);
-	free(past.at);
+	engine_queries_end();
 	trace_file_close(trace);
 	trace_file_close(answers);
 }
 
+/* For engine_queries.c alone. */
+mk_handle *engine_handle(void)
+{
+	WANTS_LOCK();
+	return &engine;
+}
+
+/* Set before the mount's threads begin, and not changed afterwards: so it is read without a lock. */
 static void (*calls_first)(void);
 
+/* NULL at first: nobody is called. */
 void engine_lock_calls(void (*first)(void))
 {
 	calls_first = first;
@@ -91,11 +85,14 @@ void engine_lock_calls(void (*first)(void))
 void engine_lock(void)
 {
 	pthread_mutex_lock(&lock);
+	/* `calls_first` answers the supervisor. So whoever gets the lock knows all that the supervisor
+	   has said before, and a look at the engine is never older than that. */
 	holds_lock = true;
 	if (calls_first)
 		calls_first();
 }
 
+/* First the mark and then the lock: afterwards another thread may have it. */
 void engine_unlock(void)
 {
 	holds_lock = false;
@@ -133,8 +130,10 @@ static uint32_t ask(uint64_t as, uint32_t *code)
 {
 	mk_info info;
 	for (;;) {
+		/* `as` is the number of the line, which the answer names; 0 for a line that is not kept. */
 		uint32_t status = mk_line(&engine, as, (const uint8_t *)line, line_size, (uint8_t *)answer.at, answer.room,
 			&info);
+		/* An answer that does not fit changes nothing in the engine, so the line is asked again. */
 		if (status == MK_TOO_SMALL && buffer_make_room(&text, 2 * answer.room) &&
 			buffer_make_room(&answer, 2 * answer.room))
 			continue;
@@ -144,6 +143,8 @@ static uint32_t ask(uint64_t as, uint32_t *code)
 	}
 }
 
+/* MK_REFUSED: the hierarchy forbids it. MK_FAULT: the line or its path is wrong. Both carry a code
+   with an errno. All else is lack of memory. */
 static int error_of(uint32_t status, uint32_t code)
 {
 	switch (status) {
@@ -162,6 +163,7 @@ static int error_of(uint32_t status, uint32_t code)
 /* What an answered line did to the engine's records. */
 enum effect { NOTHING, RECORDED, UNDONE };
 
+/* Each recorded command adds one to the depth, and each undo takes one away. */
 static enum effect effect_since(size_t before)
 {
 	mk_depth(&engine, &depth); /* it cannot fail: there is an engine */
@@ -173,10 +175,12 @@ static bool step_back(enum effect effect)
 {
 	uint32_t code, status;
 	size_t before = depth;
+	/* A refused fork that was counted is a record too, and is undone like a command. */
 	if (effect == NOTHING)
 		return true;
 	if (effect == UNDONE) {
 		take_text();
+		/* The text of an undo is the command that it undid, as a line. */
 		if (text.size == 0 || text.size > sizeof line)
 			return false;
 		line_size = text.size - 1;
@@ -194,6 +198,7 @@ static bool step_back(enum effect effect)
 static void tell_long(void)
 {
 	static const char mark[] = "# This trace is longer than 16,777,216 bytes: use cgshell, not cgreplay.\n";
+	/* It may fail: then the trace lacks a comment and no line. */
 	if (told_long || trace->fd < 0 || trace->size <= TRACE_BYTES)
 		return;
 	told_long = true;
@@ -219,6 +224,7 @@ static int keep_line(size_t *size)
 /* False if out of memory: then nothing has changed. */
 static bool forget(void)
 {
+	/* It takes no lock of its own. The state stays; only the records go. */
 	bool done = mk_forget(&engine) == MK_DONE;
 	if (done)
 		depth = 0;
@@ -235,9 +241,13 @@ static int ask_and_keep(void)
 	size_t size = line_size + 1;
 	line[line_size] = '\n';
 	line[size] = 0;
+	/* Not within an operation of several lines: its first lines may have to be undone. If there is
+	   no memory for it, it is tried again at the next line. */
 	if (!has_history && !several.are_open && depth >= FORGET_AT)
 		forget();
 	size_t before = depth;
+	/* The size that is kept grows by the comment: `size` is what has to be taken back if the line
+	   fails. */
 	if (trace->fd >= 0 && (fault = keep_line(&size)))
 		return fault;
 	uint32_t status = ask(number, &code);
@@ -257,11 +267,13 @@ static int ask_and_keep(void)
 	return error_of(status, code);
 }
 
+/* With a history the step needs room in its list: without that nothing is begun. */
 int engine_begin(void)
 {
 	WANTS_LOCK();
 	int fault = has_history ? undo_steps_make_room() : 0;
 	several.are_open = fault == 0;
+	/* What engine_finish goes back to after a fault. */
 	several.depth = depth;
 	several.number = number;
 	several.trace = trace->size;
@@ -279,12 +291,14 @@ int engine_finish(int fault)
 		undo_steps_add(several.depth, depth);
 	if (fault == 0 || depth == several.depth)
 		return fault;
+	/* The newest first, as they were recorded in order. */
 	while (are_undone && depth > several.depth)
 		are_undone = step_back(RECORDED);
 	if (!are_undone) {
 		trace->broken = answers->broken = EIO;
 		return fault;
 	}
+	/* The lines and their answers go together, so that a replay of the one gives the other. */
 	trace_file_take_back(trace, (size_t)(trace->size - several.trace));
 	trace_file_take_back(answers, (size_t)(answers->size - several.answers));
 	number = several.number;
@@ -295,9 +309,11 @@ __attribute__((format(printf, 1, 0))) static bool set_line(const char *format, v
 {
 	int n = vsnprintf(line, sizeof line - 2, format, words);
 	line_size = n > 0 ? (size_t)n : 0;
+	/* Two bytes stay free, for the line feed and the zero byte behind it. */
 	return n > 0 && (size_t)n < sizeof line - 2;
 }
 
+/* -ENAMETOOLONG: the line is longer than the trace language allows. */
 int engine_line(const char *format, ...)
 {
 	va_list words;
@@ -308,6 +324,7 @@ int engine_line(const char *format, ...)
 	return fits ? ask_and_keep() : -ENAMETOOLONG;
 }
 
+/* The number 0 says that the line is not part of the trace. */
 int engine_look(const char *format, ...)
 {
 	uint32_t code;
@@ -329,84 +346,11 @@ const char *engine_text(size_t *size)
 	return text.at;
 }
 
-int engine_where(long pid, char *group, size_t size)
-{
-	size_t n;
-	int fault = engine_look("where %ld", pid);
-	if (fault)
-		return fault == -ENOMEM ? fault : -ESRCH; /* a number beyond all pids is no process either */
-	const char *said = engine_text(&n); /* 0::GROUP and a line feed */
-	snprintf(group, size, "%.*s", (int)n - 4, said + 3);
-	return 0;
-}
-
-/* Of a call that names a group and has a buffer of sufficient size. */
-static int fault_of(uint32_t status)
-{
-	switch (status) {
-	case MK_DONE:
-		return 0;
-	case MK_REFUSED:
-	case MK_FAULT:
-		return -ENOENT;
-	default:
-		return -ENOMEM;
-	}
-}
-
-int engine_has_group(const char *path)
-{
-	mk_info info;
-	WANTS_LOCK();
-	return fault_of(mk_has_group(&engine, (const uint8_t *)path, strlen(path), &info));
-}
-
-int engine_children(const char *path, const char **found, size_t *count)
-{
-	mk_info info;
-	WANTS_LOCK();
-	uint32_t status = mk_children(&engine, (const uint8_t *)path, strlen(path), (uint8_t *)names.at, names.room, &info);
-	*found = names.at;
-	*count = info.count;
-	return fault_of(status);
-}
-
-int engine_groups(const char *top, const char **found, size_t *count)
-{
-	mk_info info;
-	uint32_t status;
-	WANTS_LOCK();
-	do
-		status = mk_subtree(&engine, (const uint8_t *)top, strlen(top), (uint8_t *)paths.at, paths.room, &info);
-	while (status == MK_TOO_SMALL && buffer_make_room(&paths, info.needed));
-	*found = paths.at;
-	*count = info.count;
-	return fault_of(status);
-}
-
+/* It is kept up to date after each line, so no call of the engine is needed. */
 size_t engine_depth(void)
 {
 	WANTS_LOCK();
 	return depth;
-}
-
-static int number_of(uint32_t (*call)(mk_handle *, const char *, uint64_t *, mk_info *), const char *group,
-	uint64_t *value)
-{
-	mk_info info;
-	return fault_of(call(&engine, group, value, &info));
-}
-
-int engine_current(const char *group, uint64_t *count)
-{
-	WANTS_LOCK();
-	return number_of(mk_current, group, count);
-}
-
-int engine_limit(const char *group, uint64_t *limit)
-{
-	WANTS_LOCK();
-	return number_of(mk_limit, group, limit);
 }
 
 int engine_forget(void)
@@ -416,23 +360,4 @@ int engine_forget(void)
 		return -ENOMEM;
 	undo_steps_cut(0);
 	return 0;
-}
-
-int engine_history(size_t from, const char **lines, size_t *size)
-{
-	mk_info info;
-	uint32_t status;
-	WANTS_LOCK();
-	do
-		status = mk_history(&engine, from, (uint8_t *)past.at, past.room, &info);
-	while (status == MK_TOO_SMALL && buffer_make_room(&past, info.needed));
-	*lines = past.at;
-	*size = info.len;
-	return status == MK_DONE ? 0 : -ENOMEM;
-}
-
-int engine_path_fault(const char *path)
-{
-	size_t position;
-	return -mk_path_errno(mk_path_fault((const uint8_t *)path, strlen(path), &position));
 }

@@ -19,8 +19,10 @@
 bool engine_start(struct trace_file *trace, struct trace_file *answers, bool history);
 void engine_end(void);
 
-/* All calls below want the lock, and so does all that the mount remembers beside the engine. A build with CHECK_LOCK ends
-   where a function that wants it is called without it. */
+/* All calls below want the lock, and so does all that the mount remembers beside the engine. A
+   build with CHECK_LOCK ends where a function that wants it is called without it. engine_lock
+   waits for the thread that has the lock, and so at most for writes to the two files, and with
+   --adopt for /proc. */
 void engine_lock(void);
 void engine_unlock(void);
 /* Whoever gets the lock first calls this, with the lock. */

@@ -5,7 +5,9 @@
 #include <string.h>
 #include <unistd.h>
 
-/* It never waits: a FIFO without a reader is refused and not opened. */
+/* It never waits: a FIFO without a reader is refused and not opened. It is opened without O_CREAT
+   first: so the caller knows whether it made the file, and may remove it if the mount does not
+   begin. O_NOCTTY: the file may be a terminal. */
 static int open_to_write(const char *name, bool *was_made)
 {
 	const int flags = O_WRONLY | O_CLOEXEC | O_NONBLOCK | O_NOCTTY;
@@ -35,12 +37,16 @@ bool trace_file_open(struct trace_file *k, const char *name)
 	return true;
 }
 
+/* Two options with one regular file would overwrite each other's text. A character device, as
+   /dev/null, may be both. */
 bool trace_file_is_same(const struct trace_file *a, const struct trace_file *b)
 {
 	return a->fd >= 0 && b->fd >= 0 && S_ISREG(a->is.st_mode) && a->is.st_dev == b->is.st_dev &&
 		a->is.st_ino == b->is.st_ino;
 }
 
+/* Both files are opened and looked at before either is emptied: options that are refused leave an
+   old trace as it was. */
 bool trace_file_begin(struct trace_file *k)
 {
 	if (k->fd < 0 || !S_ISREG(k->is.st_mode) || ftruncate(k->fd, 0) == 0)
@@ -64,6 +70,9 @@ static void cut_rest(struct trace_file *k)
 	k->has_rest = ftruncate(k->fd, k->size) != 0;
 }
 
+/* A write that returns 0 has no errno: EIO. A regular file is cut to its last whole text. A
+   character device that took a part cannot take it back, so it gets no further text: else the
+   replay would read half a line. */
 static int fault_of(struct trace_file *k, size_t done)
 {
 	int fault = errno ? errno : EIO;
@@ -81,6 +90,7 @@ int trace_file_add(struct trace_file *k, const char *bytes, size_t size)
 		return -k->broken;
 	for (size_t done = 0; done < size;) {
 		errno = 0;
+		/* pwrite at the end of what counts: what an earlier failure left behind it is overwritten. */
 		ssize_t n = regular ? pwrite(k->fd, bytes + done, size - done, k->size + (off_t)done)
 							: write(k->fd, bytes + done, size - done);
 		if (n < 0 && errno == EINTR)
@@ -93,6 +103,7 @@ int trace_file_add(struct trace_file *k, const char *bytes, size_t size)
 	return 0;
 }
 
+/* A character device has taken the text. There only the size is corrected. */
 void trace_file_take_back(struct trace_file *k, size_t size)
 {
 	k->size -= (off_t)size;

@@ -7,12 +7,15 @@
 #include <sys/stat.h>
 
 struct trace_file {
+	/* The server owns it, and uses it with the engine's lock. */
 	int fd; /* -1: nothing is kept */
+	/* As it was opened: its kind and its inode number. */
 	struct stat is;
 	off_t size; /* of a regular file, how much of it counts: the rest is a part that a full device left */
 	bool has_rest; /* there is such a rest */
-	bool was_made;
+	bool was_made; /* the file did not exist before */
 	int broken; /* of another file, the errno after which it ends within a text */
+	/* The text of the command line. */
 	const char *name;
 };
 
@@ -24,7 +27,7 @@ bool trace_file_is_same(const struct trace_file *a, const struct trace_file *b);
 bool trace_file_begin(struct trace_file *file);
 /* Closes it, and removes it if trace_file_open made it. */
 void trace_file_abandon(struct trace_file *file);
-/* 0 or -errno: then nothing was added, and the next try may succeed. */
+/* 0 or -errno: then nothing was added, and the next try may succeed. It waits for the device. */
 int trace_file_add(struct trace_file *file, const char *bytes, size_t size);
 /* Removes the newest text again. */
 void trace_file_take_back(struct trace_file *file, size_t size);

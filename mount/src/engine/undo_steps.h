@@ -8,6 +8,7 @@
 /* Before an operation: then there is room for it. 0 or -ENOMEM */
 int undo_steps_make_room(void);
 /* The commands from one place to another are one operation. The oldest command has place 0. */
+/* From `from` to `to` - 1. */
 void undo_steps_add(size_t from, size_t to);
 /* Where the newest operation begins, if there are this many commands; and how many operations these are. */
 size_t undo_steps_newest(size_t depth);

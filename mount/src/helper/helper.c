@@ -16,11 +16,13 @@
 #include <sys/socket.h>
 #include <unistd.h>
 
-/* READS: how many answers of the helper the program may keep waiting before others are not asked for. */
+/* READS: how many answers of the helper the program may keep waiting before others are not asked
+   for. OPEN_AT_FIRST: descriptors below this number may be the supervisor's. */
 enum { READS = 512, OPEN_AT_FIRST = 64 };
 
 static int to_helper = -1;
 static pid_t process = -1;
+/* How many questions have no answer yet. Only the supervisor counts. */
 static int reading;
 
 /* ---------------------------------------------------------------- the supervisor's side */
@@ -69,6 +71,7 @@ bool helper_copy_filter(pid_t thread, unsigned long at, unsigned long stack)
 
 bool helper_take(struct helper_reply *reply)
 {
+	/* It never waits: the poll of watch_over says when there is something. */
 	ssize_t n = recv(to_helper, reply, sizeof *reply, MSG_DONTWAIT);
 	if (n <= (ssize_t)offsetof(struct helper_reply, group))
 		return false;
@@ -90,6 +93,7 @@ static void read_arguments(const struct helper_question *q, struct helper_reply 
 		r->group[0] = 0;
 }
 
+/* It waits for the supervisor, in the thread that receives from this source. */
 static bool receive_question(int end, union pool_call *call)
 {
 	if (recv(end, &call->question, sizeof call->question, 0) != sizeof call->question)
@@ -110,6 +114,7 @@ static void answer_question(int end, const union pool_call *call)
 {
 	const struct helper_question *q = &call->question;
 	struct helper_reply r;
+	/* Not the whole path, which is large: only what is sent. */
 	memset(&r, 0, offsetof(struct helper_reply, group) + 1);
 	r.about = q->about;
 	r.ticket = q->ticket;
@@ -124,6 +129,7 @@ static void answer_question(int end, const union pool_call *call)
 }
 
 /* C libraries then use `clone`; the kernel does not say how many filters there are; and a filter is added as it is. */
+/* In place of an answer that could wait. */
 static void decline_question(int end, const union pool_call *call)
 {
 	const struct helper_question *q = &call->question;
@@ -152,6 +158,7 @@ static void decline_notification(int listener, const union pool_call *call)
 
 /* The kernel finds most files for the helper as it finds them for the program (path_lookup_find), from the same root. A superuser's is
    in a mount namespace of its own. */
+/* Once, before the program runs. Later changes of its root are found by channels/roots.h. */
 static bool share_root(pid_t program)
 {
 	char path[40];
@@ -180,6 +187,7 @@ static void serve(int listener, int end, pid_t program)
 		path_lookup_begin(program);
 		fault = pool_begin(sources);
 	}
+	/* The supervisor waits for this message before it lets the program run. */
 	if (send(end, &fault, sizeof fault, MSG_NOSIGNAL) != sizeof fault || fault)
 		_exit(1);
 	pool_work();

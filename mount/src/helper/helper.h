@@ -25,7 +25,9 @@ enum helper_subject { CLONE3_ARGUMENTS, FILTER_COUNT, NEW_FILTER };
 /* Only the beginning is sent, up to the end of the path. */
 struct helper_reply {
 	enum helper_subject about;
+	/* Of CLONE3_ARGUMENTS: by which the supervisor knows the birth. */
 	unsigned long ticket;
+	/* Whom the question was about. */
 	pid_t thread;
 	long filters; /* -1: the kernel does not say */
 	unsigned long copy; /* where the filter is that the thread has to add in place of its own; 0: its own */

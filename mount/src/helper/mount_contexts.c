@@ -34,7 +34,9 @@ static bool is_context(int fd)
 	return mount_root_has_file(fd, context_name);
 }
 
-/* The caller's open file itself, or -1. The caller may change what the number means meanwhile. */
+/* The caller's open file itself, or -1. The caller may change what the number means meanwhile.
+   Once it is taken it is looked at again: from then on it is this open file, whatever the number
+   means. */
 static int take_context(pid_t thread, int fd)
 {
 	cleanup_fd int seen = path_lookup_of_descriptor(thread, fd);
@@ -43,12 +45,15 @@ static int take_context(pid_t thread, int fd)
 }
 
 /* 0 or an errno */
+/* The server keeps the state of the context, so copies of the descriptor, also in other processes,
+   share it. */
 static int make_step(int context, enum mount_step step)
 {
 	struct mount_step_message message = { MOUNT_STEP_MARK, (unsigned char)step };
 	return write(context, &message, sizeof message) == sizeof message ? 0 : errno;
 }
 
+/* The descriptor belongs to the caller: each open of that file is a new context. */
 static int new_context(enum mount_step first)
 {
 	cleanup_fd int fd = mount_root_open_hidden("/.makhloeum.f", O_RDWR);
@@ -56,6 +61,7 @@ static int new_context(enum mount_step first)
 	return fault ? -fault : steal_fd(&fd);
 }
 
+/* EPERM first, as in the kernel. */
 int mount_contexts_open(const struct seccomp_notif *call)
 {
 	if (!stand_in_may((pid_t)call->pid, CAP_SYS_ADMIN))
@@ -66,6 +72,7 @@ int mount_contexts_open(const struct seccomp_notif *call)
 /* ---------------------------------------------------------------- fsconfig */
 
 /* Whether the kernel takes these arguments: 0 or an errno. */
+/* As the kernel's fsconfig checks them, before it looks at the context. */
 static int check(unsigned command, bool has_key, bool has_value, int number)
 {
 	bool is_valid = false;
@@ -120,12 +127,14 @@ static int read_text(pid_t thread, unsigned long at, char text[KEY])
 	return program_memory_read(thread, at, text, KEY) ? EINVAL : EFAULT;
 }
 
+/* Only whether the caller has such a descriptor. */
 static bool is_open(pid_t thread, int fd)
 {
 	cleanup_fd int file = path_lookup_of_descriptor(thread, fd);
 	return file >= 0;
 }
 
+/* The step comes first: in a wrong phase the kernel fails with EBUSY, whatever the option. */
 static int set_option(pid_t thread, int context, unsigned command, const __u64 *a)
 {
 	char key[KEY], value[KEY];
@@ -141,6 +150,7 @@ static int set_option(pid_t thread, int context, unsigned command, const __u64 *
 	return fault || is_source || (is_plain && is_known(key, has_text)) ? fault : EINVAL;
 }
 
+/* EPERM: a mount needs the right to mount. */
 bool mount_contexts_configures(const struct seccomp_notif *call, int *error)
 {
 	const __u64 *a = call->data.args;
@@ -148,6 +158,7 @@ bool mount_contexts_configures(const struct seccomp_notif *call, int *error)
 	cleanup_fd int context = take_context(thread, (int)a[0]);
 	if (context < 0)
 		return false;
+	/* The kernel takes an unsigned int: the upper half does not count. */
 	unsigned command = (unsigned)a[1];
 	*error = check(command, a[2] != 0, a[3] != 0, (int)a[4]);
 	if (*error)
@@ -170,6 +181,8 @@ bool mount_contexts_configures(const struct seccomp_notif *call, int *error)
 
 /* ---------------------------------------------------------------- fsmount and fspick */
 
+/* What is not valid is left to the kernel, which refuses a descriptor that is of no context of its
+   own. */
 static bool are_valid(__u64 flags, __u64 attributes)
 {
 	const unsigned known = MOUNT_ATTR_RDONLY | MOUNT_ATTR_NOSUID | MOUNT_ATTR_NODEV | MOUNT_ATTR_NOEXEC |
@@ -180,6 +193,7 @@ static bool are_valid(__u64 flags, __u64 attributes)
 }
 
 /* The directory at the top of a copy, which is unmounted here and stays in use. */
+/* A descriptor or -errno. */
 static int mount_of(pid_t thread, int context, __u64 attributes)
 {
 	char group[PATH_MAX_SAID];
@@ -190,6 +204,7 @@ static int mount_of(pid_t thread, int context, __u64 attributes)
 	cleanup_fd int top = tree < 0 ? -1 : openat(tree, ".", O_RDONLY | O_DIRECTORY | O_CLOEXEC);
 	if (top < 0)
 		return tree < 0 ? tree : -errno;
+	/* Last: after a failure before this the context may be used again. */
 	fault = make_step(context, MOUNT);
 	return fault ? -fault : steal_fd(&top);
 }
@@ -221,13 +236,15 @@ bool mount_contexts_picks(const struct seccomp_notif *call, int *opened)
 		: path_lookup_find(thread, (int)a[0], path, !(flags & FSPICK_SYMLINK_NOFOLLOW), 0, NULL);
 	if (file < 0 || !mount_root_has(file) || !describe(file, STATX_TYPE, &st))
 		return false;
+	/* Not the root of a mount: EINVAL, as in the kernel. */
 	*opened = st.stx_attributes & STATX_ATTR_MOUNT_ROOT ? new_context(PICK) : -EINVAL;
 	return true;
 }
 
 /* ---------------------------------------------------------------- move_mount */
 
-/* Whether the thread's namespace has the mount in which the file is. */
+/* Whether the thread's namespace has the mount in which the file is. If that can't be known, it is
+   taken for one, and the kernel answers. */
 static bool has_mount(pid_t thread, int file)
 {
 	char path[40];
@@ -242,6 +259,7 @@ static bool has_mount(pid_t thread, int file)
 }
 
 /* The attributes of the mount in which a file is. */
+/* The caller asked for them by fsmount, and they are kept with the descriptor alone. */
 static unsigned attributes_of(const struct statfs *st)
 {
 	const unsigned long flags = (unsigned long)st->f_flags;
@@ -260,6 +278,7 @@ bool mount_contexts_moves(const struct seccomp_notif *call, int *error)
 	char from[2], path[PATH_MAX], group[PATH_MAX_SAID];
 	struct statfs st;
 	unsigned flags = (unsigned)a[4];
+	/* Only a descriptor of fsmount, with an empty path, is meant here. */
 	if (!(flags & MOVE_MOUNT_F_EMPTY_PATH) || flags & ~known || !program_memory_text(thread, a[1], from, sizeof from) ||
 		from[0])
 		return false;
@@ -273,6 +292,7 @@ bool mount_contexts_moves(const struct seccomp_notif *call, int *error)
 		: path_lookup_find(thread, (int)a[2], path, flags & MOVE_MOUNT_T_SYMLINKS, 0, NULL);
 	if (target < 0)
 		return false; /* as above */
+	/* The mount is made anew at its place: the caller's was unmounted when fsmount returned. */
 	int fault = mount_root_group_of(thread, (int)a[0], group);
 	if (fault == 0 && fstatfs(top, &st))
 		fault = -errno;

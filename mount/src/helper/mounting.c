@@ -30,8 +30,9 @@ static int version_of(const char *type)
 	return strcmp(type, "cgroup2") == 0 ? 2 : strcmp(type, "cgroup") == 0;
 }
 
-/* Whether the kernel would let the thread mount the machine's cgroups: only a superuser of the namespace of users to which its
-   cgroup namespace belongs. That of this process belongs to one above the program's. */
+/* Whether the kernel would let the thread mount the machine's cgroups: only a superuser of the
+   namespace of users to which its cgroup namespace belongs. That of this process belongs to one
+   above the program's. NS_GET_USERNS fails with EPERM for an owner above the caller's namespace. */
 static bool may_mount_groups(pid_t thread)
 {
 	bool is_superuser = stand_in_may(thread, CAP_SYS_ADMIN);
@@ -41,6 +42,7 @@ static bool may_mount_groups(pid_t thread)
 	return is_superuser && !is_above;
 }
 
+/* The text is 0::GROUP and a line feed, as in /proc/PID/cgroup. */
 int mounting_root(pid_t thread, char *out, size_t size)
 {
 	char name[48], text[PATH_MAX_SAID + 8];
@@ -55,6 +57,7 @@ int mounting_root(pid_t thread, char *out, size_t size)
 
 /* ---------------------------------------------------------------- a mount of cgroup2 */
 
+/* The copy is a mount of its own, attached nowhere: its attributes are no others'. */
 int mounting_copy(const char *group, unsigned attributes)
 {
 	bool has_times = attributes & MOUNT_ATTR__ATIME;
@@ -72,6 +75,7 @@ struct bind {
 	int tree, target;
 };
 
+/* In the process of stand_in_call: it acts on descriptors alone, so no path is looked up there. */
 static int bind_there(const void *argument)
 {
 	const struct bind *b = argument;
@@ -84,6 +88,8 @@ int mounting_attach(pid_t thread, int tree, int target)
 	return stand_in_call(thread, bind_there, &(struct bind){ tree, target });
 }
 
+/* After the last look at the thread and before acting for it: the number is the caller's then, and
+   no other's. */
 static bool is_there(int listener, const struct seccomp_notif *call)
 {
 	return ioctl(listener, SECCOMP_IOCTL_NOTIF_ID_VALID, &call->id) == 0;
@@ -96,6 +102,7 @@ static int look_there(const void *path)
 }
 
 /* The place of a mount, or -errno. Why there is none, the kernel says where the thread is. */
+/* The descriptor belongs to the caller. */
 static int find_target(pid_t thread, const char *path)
 {
 	int target = path_lookup_find(thread, AT_FDCWD, path, true, 0, NULL);
@@ -124,6 +131,7 @@ static int may_cover(int target)
 	return S_ISDIR(st.stx_mode) ? 0 : ENOTDIR;
 }
 
+/* The order of the kernel's own refusals: the place, the right, and then what is there. */
 static int mount_groups(int listener, const struct seccomp_notif *call, const char *path)
 {
 	pid_t thread = (pid_t)call->pid;
@@ -165,10 +173,13 @@ static bool read_data(pid_t thread, unsigned long at, char data[PAGE])
 	return true;
 }
 
+/* Read once, all before any decision: the program can change its memory afterwards, but not this
+   copy. */
 static int read_wanted(const struct seccomp_notif *call, struct wanted *w)
 {
 	const __u64 *a = call->data.args;
 	pid_t thread = (pid_t)call->pid;
+	/* As the kernel does: the old mark in the upper half is taken out. */
 	w->flags = a[3] & ((a[3] & MS_MGC_MSK) == MS_MGC_VAL ? 0xffffUL : ~0UL);
 	w->has_source = a[0] != 0;
 	w->has_data = a[4] != 0;
@@ -189,6 +200,7 @@ static void take_device(pid_t thread, struct wanted *w)
 	const char *at = w->data;
 	if (!w->has_data || (strcmp(w->type, "fuse") != 0 && strncmp(w->type, "fuse.", 5) != 0))
 		return;
+	/* Options have commas between them. */
 	while (at && strncmp(at, "fd=", 3) != 0)
 		at = (at = strchr(at, ',')) ? at + 1 : NULL;
 	if (!at)
@@ -198,6 +210,8 @@ static void take_device(pid_t thread, struct wanted *w)
 	w->device = process < 0 ? -1 : (int)syscall(SYS_pidfd_getfd, process, w->device_as, 0);
 }
 
+/* In the process of stand_in_call, which has the thread's rights. FUSE finds the connection under
+   the number that the options name. */
 static int mount_there(const void *argument)
 {
 	const struct wanted *w = argument;
@@ -219,11 +233,14 @@ static int mount_other(int listener, const struct seccomp_notif *call, struct wa
 		return -target;
 	w->target = target;
 	take_device(thread, w);
+	/* It is closed here, once the mount has its own. */
 	cleanup_fd int device = w->device;
 	(void)device;
 	return is_there(listener, call) ? stand_in_call(thread, mount_there, w) : EPERM;
 }
 
+/* The type decides, and it is in the program's memory: so whoever could mount the machine's groups
+   gets each of its mounts made here, from this copy. */
 bool mounting_takes(int listener, const struct seccomp_notif *call, int *error)
 {
 	struct wanted w;
@@ -254,6 +271,8 @@ struct opening {
 static int open_there(const void *argument)
 {
 	const struct opening *o = argument;
+	/* The descriptor goes to the helper, which hands it to the program: the other process ends
+	   with the call. */
 	int fd = (int)syscall(SYS_fsopen, o->type, o->flags);
 	return fd >= 0 && descriptor_passing_send(o->to, "", 1, &fd, 1) ? 0 : errno;
 }
@@ -261,6 +280,8 @@ static int open_there(const void *argument)
 /* The descriptor, or -errno. */
 static int open_other(pid_t thread, struct opening *o)
 {
+	/* fsopen keeps the namespaces and rights of its caller, so a process that has the thread's
+	   calls it. */
 	int ends[2], fd;
 	char byte = 0;
 	if (socketpair(AF_UNIX, SOCK_SEQPACKET | SOCK_CLOEXEC, 0, ends))

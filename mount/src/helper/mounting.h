@@ -13,7 +13,9 @@
 bool mounting_takes(int listener, const struct seccomp_notif *call, int *error);
 /* fsopen: true if the kernel must not look at it, and then the descriptor that it returns, or -errno. */
 bool mounting_opens(int listener, const struct seccomp_notif *call, int *opened);
-/* A copy of the hierarchy's mount with more attributes (MOUNT_ATTR_..), starting at this group: a descriptor or -errno. */
+/* A copy of the hierarchy's mount with more attributes (MOUNT_ATTR_..), starting at this group: a
+   descriptor or -errno. The descriptor belongs to the caller, and with its last copy the mount is
+   gone unless it was attached. */
 int mounting_copy(const char *group, unsigned attributes);
 /* Mounts such a copy on a file or directory, as the thread may: 0 or an errno. */
 int mounting_attach(pid_t thread, int tree, int target);

@@ -16,6 +16,7 @@ enum { LINKS = 40 }; /* as many as the kernel follows */
 
 /* ---------------------------------------------------------------- process numbers */
 
+/* A namespace is a file of the kernel's file system for them: two are equal if their inodes are. */
 bool path_lookup_same_numbers(pid_t a, pid_t b)
 {
 	char path[40];
@@ -32,8 +33,8 @@ pid_t path_lookup_process_of(pid_t thread)
 	return (pid_t)proc_status_number(thread, "Tgid:");
 }
 
-/* The caller is the helper. Its parent is the supervisor, which traces its other children, except those of makhloeum. In
-   another PID namespace none of these has a number. */
+/* The caller is the helper. Its parent is the supervisor, which traces its other children, except those of makhloeum.
+   In another PID namespace none of these has a number. */
 bool path_lookup_is_own(pid_t thread, pid_t number)
 {
 	if (!path_lookup_same_numbers(thread, getpid()))
@@ -78,8 +79,9 @@ pid_t path_lookup_thread_seen_from(pid_t thread, pid_t process, pid_t number)
 
 /* ---------------------------------------------------------------- one step of a path */
 
-/* How far a walk has come. `rest` is what is left of the path; `resolve`: the rules of openat2 by which it goes; `before`: where it was
-   before its last step, or -1. */
+/* How far a walk has come. `rest` is what is left of the path; `resolve`: the rules of openat2 by which it goes;
+   `before`: where it was before its last step, or -1. `root`, `at` and `before` are descriptors with O_PATH, which the
+   walk closes as it goes on. `links`: how many it has followed. */
 struct walk {
 	pid_t thread;
 	int root, at, before;
@@ -89,6 +91,7 @@ struct walk {
 	char rest[2 * PATH_MAX];
 };
 
+/* /proc/N is this process's own copy (proc_status_enter): the program can't mount anything over it. */
 static int open_of(pid_t thread, const char *what)
 {
 	char path[64];
@@ -96,8 +99,9 @@ static int open_of(pid_t thread, const char *what)
 	return open(path, O_PATH | O_CLOEXEC);
 }
 
-/* Only the superuser may open the directory of descriptors of a process that is not dumpable, but a process that may trace
-   it may get one. */
+/* Only the superuser may open the directory of descriptors of a process that is not dumpable, but a process that may
+   trace it may get one. The descriptor is a copy: it shares the offset, and stays open when the program closes its
+   own. */
 static int take_of(pid_t process, pid_t thread, int fd)
 {
 	cleanup_fd int of_thread = thread ? open_thread(thread) : -1;
@@ -116,6 +120,7 @@ int path_lookup_of_descriptor(pid_t thread, int fd)
 	char what[32];
 	snprintf(what, sizeof what, "fd/%d", fd);
 	int found = open_of(thread, what);
+	/* EACCES: the process is not dumpable. */
 	if (found >= 0 || errno != EACCES)
 		return found;
 	cleanup_fd int taken = path_lookup_take(thread, fd);
@@ -123,6 +128,7 @@ int path_lookup_of_descriptor(pid_t thread, int fd)
 	return taken < 0 ? -1 : open(what, O_PATH | O_CLOEXEC);
 }
 
+/* One file may be seen in several mounts: there its `..` leads elsewhere. So the mount is compared too. */
 static bool are_same(const struct statx *one, const struct statx *other)
 {
 	return one->stx_ino == other->stx_ino && one->stx_mnt_id == other->stx_mnt_id && is_same_device(one, other);
@@ -153,6 +159,7 @@ static bool is_directory(int fd)
 	return describe(fd, STATX_TYPE, &st) && S_ISDIR(st.stx_mode);
 }
 
+/* The walk owns `to` from now on. */
 static void go(struct walk *w, int to)
 {
 	close_at(&w->before);
@@ -160,7 +167,7 @@ static void go(struct walk *w, int to)
 	w->at = to;
 }
 
-/* Puts the text of a link before the rest. */
+/* Puts the text of a link before the rest. As in the kernel: the link's text takes the link's place in the path. */
 static bool go_on_with(struct walk *w, const char *text)
 {
 	char rest[sizeof w->rest];
@@ -194,7 +201,8 @@ static bool follow_self(struct walk *w, const char *name)
 	return go_on_with(w, text);
 }
 
-/* A descriptor of a process that is not dumpable. */
+/* A descriptor of a process that is not dumpable. The name of the directory tells whose it is: it is in this process's
+   own /proc, so its numbers are known here. */
 static int take_descriptor(int directory, const char *name)
 {
 	char link[40], path[64], number[16];
@@ -213,12 +221,15 @@ static int take_descriptor(int directory, const char *name)
 static bool follow(struct walk *w, int link, const char *name)
 {
 	char text[PATH_MAX];
+	/* The kernel then fails with ELOOP. The call is left to it, and it says so itself. */
 	if (++w->links > LINKS || w->resolve & RESOLVE_NO_SYMLINKS)
 		return false;
 	if (proc_numbers_is_proc(link)) {
 		bool at_root = proc_numbers_is_root(w->at);
 		if (at_root && (strcmp(name, "self") == 0 || strcmp(name, "thread-self") == 0))
 			return follow_self(w, name);
+		/* The kernel goes to the file itself, and reads no text: O_PATH without O_NOFOLLOW does the same here. These
+		   rules of openat2 forbid it. */
 		if (!at_root) { /* not a text but a file: a descriptor, a directory, a program */
 			if (w->resolve & (RESOLVE_NO_MAGICLINKS | RESOLVE_BENEATH | RESOLVE_IN_ROOT))
 				return false;
@@ -235,7 +246,8 @@ static bool follow(struct walk *w, int link, const char *name)
 	return go_on_with(w, text);
 }
 
-/* Takes the first name of the rest. False at the end of the path. */
+/* Takes the first name of the rest. False at the end of the path. Several slashes are one. The last name is told
+   apart, since O_NOFOLLOW is about it alone. */
 static bool take_name(struct walk *w, char name[NAME_MAX + 1], bool *is_last)
 {
 	size_t from = strspn(w->rest, "/"), n = strcspn(w->rest + from, "/");
@@ -259,12 +271,14 @@ static bool step(struct walk *w, const char *name, bool follows)
 		return false;
 	if (strcmp(name, ".") == 0 || (is_up && is_same(w->at, w->root)))
 		return is_directory(w->at);
+	/* This may block, in a file system of the program: the thread has no lock. */
 	cleanup_fd int next = openat(w->at, name, O_PATH | O_NOFOLLOW | O_CLOEXEC);
 	bool denied = next < 0 && errno == EACCES && follows && w->resolve == 0 && proc_numbers_is_proc(w->at);
 	if (denied)
 		next = take_descriptor(w->at, name);
 	if (next < 0)
 		return false;
+	/* A mount that the program has put there ends such a walk, as in the kernel. */
 	if (w->resolve & RESOLVE_NO_XDEV && !denied && !is_same_mount(w->at, next))
 		return false;
 	if (!denied && follows && is_link(next))
@@ -273,6 +287,7 @@ static bool step(struct walk *w, const char *name, bool follows)
 	return true;
 }
 
+/* It owns `from`. The result belongs to the caller. */
 static int walk_by_hand(pid_t thread, int root, int from, const char *path, bool follows, uint64_t resolve, int *before)
 {
 	char name[NAME_MAX + 1];
@@ -292,7 +307,8 @@ static int walk_by_hand(pid_t thread, int root, int from, const char *path, bool
 
 /* ---------------------------------------------------------------- the whole path */
 
-/* Where the walk begins: the directory, or with an absolute path the root. With RESOLVE_IN_ROOT the directory is the root. */
+/* Where the walk begins: the directory, or with an absolute path the root. With RESOLVE_IN_ROOT the directory is the
+   root. The result belongs to the caller. */
 static int open_start(pid_t thread, int root, int directory, const char *path, uint64_t resolve)
 {
 	if (path[0] == '/' && !(resolve & RESOLVE_IN_ROOT))
@@ -308,6 +324,7 @@ static struct {
 	bool is_programs; /* the program began with it */
 } own_root = { .fd = -1 };
 
+/* It sends no request to a file system: the root may be of one that does not answer. */
 static bool has_own_root(pid_t thread)
 {
 	char path[40];
@@ -317,6 +334,8 @@ static bool has_own_root(pid_t thread)
 		are_same(&is, &own_root.is);
 }
 
+/* This process has the program's root already (share_root). If that root is in a /proc, or can't be described, no path
+   is known to stay outside. */
 void path_lookup_begin(pid_t program)
 {
 	own_root.fd = open("/", O_PATH | O_CLOEXEC);
@@ -326,8 +345,8 @@ void path_lookup_begin(pid_t program)
 	own_root.is_programs = has_own_root(program);
 }
 
-/* The number of the root's mount is that of no other, since the mount stays open. A relative path follows no links, since their
-   root is not known. */
+/* The number of the root's mount is that of no other, since the mount stays open. A relative path follows no links,
+   since their root is not known. */
 bool path_lookup_stays_outside_proc(pid_t thread, int directory, const char *path, bool follows)
 {
 	bool is_absolute = path[0] == '/';
@@ -335,18 +354,21 @@ bool path_lookup_stays_outside_proc(pid_t thread, int directory, const char *pat
 		.resolve = RESOLVE_NO_XDEV | (is_absolute ? RESOLVE_IN_ROOT | RESOLVE_NO_MAGICLINKS : RESOLVE_NO_SYMLINKS) };
 	if (own_root.fd < 0 || path[0] == 0)
 		return false;
+	/* As long as no process has changed its root, all have the program's, and no thread's is looked at. */
 	if (!(own_root.is_programs && !roots_have_changed()) && !has_own_root(thread))
 		return false;
 	cleanup_fd int from = is_absolute ? -1 : open_start(thread, -1, directory, path, 0);
 	if (!is_absolute && (from < 0 || proc_numbers_is_proc(from)))
 		return false;
+	/* NO_XDEV: a path that crosses no mount can't lead into /proc. The kernel then answers the open itself, since a
+	   file that is not of /proc needs no text. ENOENT is its own answer too. */
 	cleanup_fd int found = (int)syscall(SYS_openat2, is_absolute ? own_root.fd : from, path, &how, sizeof how);
 	return found >= 0 || errno == ENOENT;
 }
 
-/* If the thread has the root of this process, the kernel finds the file directly. The exceptions are files of /proc, where
-   it depends on who asks, and files that this process does not see. A walk by other rules than the usual ones that does not
-   succeed here is the kernel's to refuse. */
+/* If the thread has the root of this process, the kernel finds the file directly. The exceptions are files of /proc,
+   where it depends on who asks, and files that this process does not see. A walk by other rules than the usual ones
+   that does not succeed here is the kernel's to refuse. */
 int path_lookup_find(pid_t thread, int directory, const char *path, bool follows, uint64_t resolve, int *before)
 {
 	if (before)
@@ -357,6 +379,7 @@ int path_lookup_find(pid_t thread, int directory, const char *path, bool follows
 	cleanup_fd int from = root < 0 ? -1 : open_start(thread, root, directory, path, resolve);
 	if (from < 0 || path[0] == 0)
 		return -1; /* cppcheck-suppress resourceLeak ; the cleanup attribute closes them */
+	/* Both rules make the starting directory the root of the walk. */
 	if (resolve & (RESOLVE_BENEATH | RESOLVE_IN_ROOT)) {
 		int top = fcntl(from, F_DUPFD_CLOEXEC, 0);
 		if (top < 0)
@@ -368,6 +391,8 @@ int path_lookup_find(pid_t thread, int directory, const char *path, bool follows
 		struct open_how how = { .flags = (uint64_t)(O_PATH | O_CLOEXEC | (follows ? 0 : O_NOFOLLOW)),
 			.resolve = RESOLVE_NO_MAGICLINKS };
 		cleanup_fd int found = (int)syscall(SYS_openat2, from, path, &how, sizeof how);
+		/* What is found in /proc was found with this process's numbers and its own /proc/self, so it is looked up
+		   again, by hand. */
 		if (found >= 0 && !proc_numbers_is_proc(found) && !proc_numbers_is_proc(from))
 			return steal_fd(&found);
 	}

@@ -18,7 +18,7 @@ bool path_lookup_stays_outside_proc(pid_t thread, int directory, const char *pat
 int path_lookup_find(pid_t thread, int directory, const char *path, bool follows, uint64_t resolve, int *before);
 /* The same for a descriptor of the thread. */
 int path_lookup_of_descriptor(pid_t thread, int fd);
-/* The open file itself, which both have then. */
+/* The open file itself, which both have then. It belongs to the caller. */
 int path_lookup_take(pid_t thread, int fd);
 /* Whether two threads see the same process numbers. */
 bool path_lookup_same_numbers(pid_t a, pid_t b);

@@ -3,7 +3,9 @@
 #include <time.h>
 #include <unistd.h>
 
-/* MOST: how many calls of each source the program may keep waiting before others are declined. */
+/* MOST: how many calls of each source the program may keep waiting before others are declined.
+   QUIET: for so long without a call the thread that watches rests. PATIENCE: for so long a call
+   waits for a thread that could watch it. STACK: bytes of each thread's stack; none calls itself. */
 enum {
 	MOST = 512,
 	LOOK = 1, /* milliseconds */
@@ -12,6 +14,8 @@ enum {
 	STACK = 256 * 1024
 };
 
+/* Written before the threads begin; they live as long as the process, in serve's frame, which
+   never returns. */
 static struct pool_source *sources;
 static pthread_attr_t small;
 
@@ -30,6 +34,7 @@ static void *watch_first(void *unused);
 static void wait_for_a_look(pthread_cond_t *what)
 {
 	struct timespec end;
+	/* Not the time of day, which somebody may set. */
 	clock_gettime(CLOCK_MONOTONIC, &end);
 	end.tv_nsec += LOOK * 1000000L;
 	end.tv_sec += end.tv_nsec / 1000000000;
@@ -43,6 +48,7 @@ static bool get_watcher(void)
 	pthread_t thread;
 	if (is_watched)
 		return true;
+	/* A thread that is there already costs nothing: the user may have few left. */
 	if (first_is_free) {
 		first_is_free = false;
 		pthread_cond_signal(&needed);
@@ -52,8 +58,10 @@ static bool get_watcher(void)
 	return is_watched;
 }
 
-/* With the lock. If the program keeps no thread waiting, one is free soon: then only threads are lacking, or the machine is busy. If
-   none came, the next call waits only for one look, until a call has been answered. */
+/* With the lock. If the program keeps no thread waiting, one is free soon: then only threads are
+   lacking, or the machine is busy. If none came, the next call waits only for one look, until a
+   call has been answered. A thread that answers without one that watches could be kept waiting by
+   the program, and with it all later calls of this source. */
 static bool may_answer(struct pool_source *s)
 {
 	/* others have the lock during each look, so this ends after PATIENCE of them */
@@ -71,7 +79,9 @@ static bool may_answer(struct pool_source *s)
 static struct pool_source *take_over(void)
 {
 	for (struct pool_source *s = sources; s < sources + POOL_SOURCES; s++)
+		/* `seen` was set at the last look, so the call has lasted for at least one look. */
 		if (s->is_busy && s->seen == s->turn) {
+			/* The thread at the call sees by its turn that another one receives now. */
 			s->turn++;
 			s->is_busy = false;
 			s->kept++;
@@ -114,6 +124,7 @@ static struct pool_source *watch(bool is_first)
 		}
 		quiet = 0;
 		rests = true;
+		/* Calls wake it: end_rest. */
 		while (rests)
 			pthread_cond_wait(&begun, &lock);
 	}
@@ -134,9 +145,11 @@ static void receive_from(struct pool_source *s)
 	union pool_call call;
 	for (;;) {
 		pthread_mutex_unlock(&lock);
+		/* Without the lock: this waits for the program. */
 		while (!s->receive(s->fd, &call))
 			pause(); /* the program has ended, and so does this process soon */
 		pthread_mutex_lock(&lock);
+		/* Before the call: if it is to be declined, that is known before it can block. */
 		bool answers = may_answer(s);
 		unsigned turn = ++s->turn; /* the one that watches changes it when it receives in this one's place */
 		s->is_busy = true;
@@ -144,7 +157,9 @@ static void receive_from(struct pool_source *s)
 		pthread_mutex_unlock(&lock);
 		(answers ? s->answer : s->decline)(s->fd, &call);
 		pthread_mutex_lock(&lock);
+		/* A call was answered: the next one may wait with the whole patience. */
 		s->stalled &= !answers;
+		/* Another thread receives: this one was kept waiting, and is left over. */
 		if (s->turn != turn) {
 			s->kept--;
 			return;
@@ -156,7 +171,10 @@ static void receive_from(struct pool_source *s)
 /* With the lock. Whether this thread, which was kept waiting, watches from now on; else it ends. */
 static bool is_needed(bool is_first)
 {
+	/* To all: each thread in may_answer has a source of its own to look at. */
 	pthread_cond_broadcast(&freed);
+	/* So there are only as many threads as are needed. The first one stays, since its end is that
+	   of the process. */
 	if (is_watched && !is_first)
 		return false;
 	if (is_watched) {
@@ -169,7 +187,8 @@ static bool is_needed(bool is_first)
 	return true;
 }
 
-/* With the lock. Watches and receives in turn, as long as it is needed. */
+/* With the lock. Watches and receives in turn, as long as it is needed. It ends only for a thread
+   that is not the first. */
 static void work(bool is_first)
 {
 	struct pool_source *s;
@@ -211,6 +230,7 @@ int pool_begin(struct pool_source of[POOL_SOURCES])
 		fault = pthread_attr_setdetachstate(&small, PTHREAD_CREATE_DETACHED);
 	if (fault == 0)
 		fault = pthread_create(&thread, &small, watch_first, NULL);
+	/* The first source is the first thread's (pool_work). */
 	for (int i = 1; fault == 0 && i < POOL_SOURCES; i++)
 		fault = pthread_create(&thread, &small, receive_first, &sources[i]);
 	return fault;

@@ -17,11 +17,13 @@
 /* What the supervisor asks about a thread (helper/helper.h). */
 struct helper_question {
 	enum helper_subject about;
+	/* Which of them has a meaning depends on `about`. Addresses are the program's. */
 	unsigned long ticket, at, stack;
 	size_t size;
 	pid_t thread;
 };
 
+/* Which member it has follows from the source. Each thread has one of its own. */
 union pool_call {
 	struct helper_question question;
 	struct seccomp_notif notification;

@@ -19,7 +19,8 @@ enum { LONG = 4096 };
 
 /* ---------------------------------------------------------------- the texts */
 
-/* A descriptor or -errno, as all below. */
+/* A descriptor or -errno, as all below. Two descriptors of one file: the stream owns one, and the
+   other outlives it. */
 static int new_text(const char *name, FILE **out)
 {
 	cleanup_fd int fd = memfd_create(name, MFD_CLOEXEC), own = fd < 0 ? -1 : dup(fd);
@@ -30,7 +31,8 @@ static int new_text(const char *name, FILE **out)
 	return steal_fd(&fd);
 }
 
-/* The text is complete, or not shown. Who gets it can only read it. */
+/* The text is complete, or not shown. Who gets it can only read it. It is opened again for that,
+   since the first descriptor can be written. */
 static int end_text(int fd, FILE *out)
 {
 	char again[48];
@@ -42,7 +44,8 @@ static int end_text(int fd, FILE *out)
 	return incomplete ? -ENOMEM : readable < 0 ? -errno : readable;
 }
 
-/* A file of the mount, so that it shows the current group even if it stays open. */
+/* A file of the mount, so that it shows the current group even if it stays open. The name says
+   whose text it is, and in which cgroup namespace its reader is. */
 static int cgroup_text(pid_t reader, pid_t pid)
 {
 	char name[48];
@@ -58,6 +61,9 @@ static int mounts_text(pid_t reader, pid_t pid, const char *what)
 	struct given_table given = { .number = table_channel_number(), .space = namespaces_cgroup_of(reader) };
 	snprintf(given.what, sizeof given.what, "%s", what);
 	snprintf(path, sizeof path, "%d/%s", pid, what);
+	/* Two, since the kernel reports a change once for each open file: the server reads one and
+	   watches the other. This may wait for a lock that the program holds, in this thread and not
+	   in the server. */
 	cleanup_fd int table = open(path, O_RDONLY | O_CLOEXEC), bell = open(path, O_RDONLY | O_CLOEXEC);
 	if (table < 0 || bell < 0)
 		return errno == ENOMEM ? -ENOMEM : -1; /* cppcheck-suppress resourceLeak ; the cleanup attribute closes them */
@@ -104,6 +110,7 @@ static int controllers_text(void)
 /* ---------------------------------------------------------------- the cpuset of a process */
 
 /* A short file of the mount without its last line feed. */
+/* It takes the descriptor, which may be -1, and closes it. */
 static bool read_short(int file, char *out, size_t size)
 {
 	cleanup_fd int fd = file;
@@ -113,6 +120,8 @@ static bool read_short(int file, char *out, size_t size)
 }
 
 /* Its group, or the nearest above that has the controller. */
+/* The mount may block here, behind a listing of the root that a program holds back: only this call
+   waits. */
 static bool find_cpuset(pid_t pid, char group[PATH_MAX_SAID])
 {
 	char path[PATH_MAX_SAID + 32], text[PATH_MAX_SAID + 8];
@@ -132,6 +141,7 @@ static int cpuset_text(pid_t reader, pid_t pid)
 {
 	char group[PATH_MAX_SAID] = "/", root[PATH_MAX_SAID], seen[PATH_MAX_SAID + 1];
 	int fault = mounting_root(reader, root, sizeof root);
+	/* Without the controller every process is in the root. */
 	if (fault == 0 && controllers_kept() & HAS_CPUSET && !find_cpuset(pid, group))
 		fault = errno ? -errno : -EIO;
 	if (fault)
@@ -160,6 +170,7 @@ static bool is_number(const char *name)
 }
 
 /* The text of the file `what` of a process, or of one of its threads, as the asker sees it. */
+/* A process that is gone has no text: the kernel then says so. */
 static int text_of(const struct proc_numbers *numbers, const char *what, pid_t process, pid_t thread)
 {
 	pid_t pid = proc_numbers_process(numbers, process);
@@ -187,6 +198,8 @@ int procfiles_text(pid_t thread, int file, int from)
 {
 	char link[40], path[LONG];
 	struct statfs st;
+	/* Only what the kernel itself says of the descriptor counts here, not the path of the call,
+	   which the program may have changed. */
 	if (fstatfs(file, &st) || st.f_type != PROC_SUPER_MAGIC)
 		return -1;
 	snprintf(link, sizeof link, "self/fd/%d", file);

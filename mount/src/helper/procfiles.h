@@ -4,8 +4,10 @@
 
 #include <sys/types.h>
 
-/* If the file (O_PATH) is one of these, a descriptor of the text that the thread has to see in its place, or -errno if it
-   cannot be made. -1 for any other file, and for one of a process that is gone. `from`: the directory in which it was found, or -1. */
+/* If the file (O_PATH) is one of these, a descriptor of the text that the thread has to see in its
+   place, or -errno if it cannot be made. -1 for any other file, and for one of a process that is
+   gone. `from`: the directory in which it was found, or -1. The descriptor belongs to the caller,
+   who gives a copy to the program. */
 int procfiles_text(pid_t thread, int file, int from);
 
 #endif

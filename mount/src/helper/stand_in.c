@@ -21,6 +21,7 @@ static const struct {
 enum { SPACES = sizeof spaces / sizeof *spaces, PID_SPACE = 3 };
 
 /* What a thread has. */
+/* The descriptors belong to stand_in_call, which closes them after the call. */
 struct place {
 	int spaces[SPACES]; /* -1: that of this process */
 	int root, directory;
@@ -28,6 +29,7 @@ struct place {
 	struct __user_cap_data_struct capabilities[_LINUX_CAPABILITY_U32S_3];
 };
 
+/* Not with O_PATH: setns needs an open file. */
 int stand_in_open_space(pid_t thread, const char *which)
 {
 	char path[48];
@@ -35,6 +37,7 @@ int stand_in_open_space(pid_t thread, const char *which)
 	return open(path, O_RDONLY | O_CLOEXEC);
 }
 
+/* False also if that can't be known: then the caller enters the namespace, or is refused. */
 bool stand_in_is_own(int space, const char *which)
 {
 	char path[48];
@@ -49,6 +52,7 @@ static unsigned long long capabilities_of(pid_t thread, const char *which)
 	return proc_status_line(thread, which, line, sizeof line) ? strtoull(line, NULL, 16) : 0;
 }
 
+/* Of the effective ones, by which the kernel decides. */
 bool stand_in_may(pid_t thread, int capability)
 {
 	return capabilities_of(thread, "CapEff:") >> capability & 1;
@@ -56,6 +60,7 @@ bool stand_in_may(pid_t thread, int capability)
 
 /* ---------------------------------------------------------------- what the thread has */
 
+/* A descriptor that is -1 is left out. */
 static void forget(struct place *p)
 {
 	for (size_t i = 0; i < SPACES; i++)
@@ -77,6 +82,8 @@ static bool look_at(pid_t thread, struct place *p)
 	for (size_t i = 0; i < SPACES; i++) {
 		int fd = stand_in_open_space(thread, spaces[i].name);
 		found &= fd >= 0;
+		/* setns into the process's own user namespace fails, and into another one that it has is
+		   needless. */
 		if (fd >= 0 && stand_in_is_own(fd, spaces[i].name)) {
 			close(fd);
 			fd = -1;
@@ -97,7 +104,8 @@ static bool look_at(pid_t thread, struct place *p)
 
 /* ---------------------------------------------------------------- the process that makes the call */
 
-/* The status of a child, which the program may stop. */
+/* The status of a child, which the program may stop. It has the program's user, so the program can
+   signal it. */
 static int end_of(pid_t child)
 {
 	int status;
@@ -112,7 +120,9 @@ static int end_of(pid_t child)
 	}
 }
 
-/* The capabilities come last: until then it has all. */
+/* The capabilities come last: until then it has all. The ids for files before the namespaces: they
+   are numbers of this process's user namespace. The root after the mount namespace, since entering
+   that sets the root anew. */
 static int enter(const struct place *p)
 {
 	struct __user_cap_header_struct head = { .version = _LINUX_CAPABILITY_VERSION_3 };
@@ -126,7 +136,8 @@ static int enter(const struct place *p)
 	return syscall(SYS_capset, &head, p->capabilities) ? errno : 0;
 }
 
-/* Only a child is in another namespace of process numbers, where this process has no number. */
+/* Only a child is in another namespace of process numbers, where this process has no number.
+   own_processes_die_with(0): in the new namespace its parent has no number. */
 static int call_from(const struct place *p, int (*call)(const void *argument), const void *argument)
 {
 	int fault = enter(p);
@@ -149,6 +160,7 @@ int stand_in_call(pid_t thread, int (*call)(const void *argument), const void *a
 	pid_t self = getpid(), pid = fork();
 	if (pid == 0)
 		_exit(own_processes_die_with(self) ? call_from(&p, call, argument) : EIO);
+	/* The call may block on the program: this thread then waits, and another one takes its place. */
 	int fault = pid < 0 ? errno : end_of(pid);
 	forget(&p);
 	return fault;

@@ -13,8 +13,9 @@ bool stand_in_is_own(int space, const char *which);
 /* The thread's capability in its own user namespace. */
 bool stand_in_may(pid_t thread, int capability);
 
-/* Makes the call, which may do only what is allowed after a fork of a process with threads. Returns its result, an errno or 0; or
-   why it could not be made. The thread has to be stopped in a call meanwhile. */
+/* Makes the call, which may do only what is allowed after a fork of a process with threads.
+   Returns its result, an errno or 0; or why it could not be made. The thread has to be stopped in
+   a call meanwhile. It waits for the call, as long as the program lets it last. */
 int stand_in_call(pid_t thread, int (*call)(const void *argument), const void *argument);
 
 #endif

@@ -31,7 +31,8 @@
 #define SECCOMP_IOCTL_NOTIF_SET_FLAGS SECCOMP_IOW(4, __u64)
 #endif
 
-/* It fails before Linux 6.6, where any processor may be used. */
+/* It fails before Linux 6.6, where any processor may be used. It is set and taken back around the
+   wait, so it concerns only that wake. */
 static void wake_here(int listener, bool here)
 {
 	(void)ioctl(listener, SECCOMP_IOCTL_NOTIF_SET_FLAGS, here ? SECCOMP_USER_NOTIF_FD_SYNC_WAKE_UP : 0UL);
@@ -42,6 +43,7 @@ static void wake_here(int listener, bool here)
 bool user_notification_next(int listener, struct seccomp_notif *call)
 {
 	for (;;) {
+		/* The kernel refuses to receive into memory that is not zero. */
 		memset(call, 0, sizeof *call);
 		wake_here(listener, true);
 		bool came = ioctl(listener, SECCOMP_IOCTL_NOTIF_RECV, call) == 0;
@@ -55,6 +57,8 @@ bool user_notification_next(int listener, struct seccomp_notif *call)
 	}
 }
 
+/* CONTINUE lets the kernel make the call as if nobody had looked. Else the call returns -error, or
+   0. */
 static void respond(int listener, const struct seccomp_notif *call, int error, unsigned flags)
 {
 	struct seccomp_notif_resp response = { .id = call->id, .error = -error, .flags = flags };
@@ -66,8 +70,10 @@ static void let_through(int listener, const struct seccomp_notif *call)
 	respond(listener, call, 0, SECCOMP_USER_NOTIF_FLAG_CONTINUE);
 }
 
-/* The call returns a copy of a descriptor. If the caller can't have another, the call fails: the kernel may find one when it
-   looks, and the caller would see what is the machine's. */
+/* The call returns a copy of a descriptor. If the caller can't have another, the call fails: the
+   kernel may find one when it looks, and the caller would see what is the machine's.
+   ADDFD_FLAG_SEND: the descriptor appears and the call returns in one step, so no descriptor is
+   left over if the caller is killed in between. */
 static void respond_with(int listener, const struct seccomp_notif *call, int fd, int flags)
 {
 	struct seccomp_notif_addfd add = { .id = call->id,
@@ -78,7 +84,8 @@ static void respond_with(int listener, const struct seccomp_notif *call, int fd,
 		respond(listener, call, errno, 0);
 }
 
-/* If memory did not suffice to know what the call asks for, it fails. To let it through could show the machine's own. */
+/* If memory did not suffice to know what the call asks for, it fails. To let it through could show
+   the machine's own. errno is that of the look-up which failed. */
 static bool answer_no_memory(int listener, const struct seccomp_notif *call)
 {
 	if (errno != ENOMEM)
@@ -98,6 +105,7 @@ static bool write_answer(int listener, const struct seccomp_notif *call, unsigne
 	char path[40];
 	snprintf(path, sizeof path, "%d/mem", (int)call->pid);
 	cleanup_fd int memory = open(path, O_RDWR | O_CLOEXEC);
+	/* EACCES: the caller is not dumpable. */
 	bool is_closed = memory < 0 && errno == EACCES;
 	if ((memory < 0 && !is_closed) || ioctl(listener, SECCOMP_IOCTL_NOTIF_ID_VALID, &call->id))
 		return false;
@@ -111,6 +119,7 @@ static bool answer_statfs(int listener, const struct seccomp_notif *call)
 	char path[PATH_MAX];
 	struct statfs st;
 	pid_t thread = (pid_t)call->pid;
+	/* A failed look-up without ENOMEM lets the kernel answer: it knows the errno. */
 	bool by_path = call->data.nr == __NR_statfs;
 	if (by_path && !program_memory_text(thread, call->data.args[0], path, sizeof path))
 		return false;
@@ -122,6 +131,8 @@ static bool answer_statfs(int listener, const struct seccomp_notif *call)
 	if (file < 0 || (is_text ? statfs(".", &st) : fstatfs(file, &st)))
 		return answer_no_memory(listener, call);
 	if (!is_text) {
+		/* The mount's own magic number is that of FUSE, and its f_ffree has a mark
+		   (server/operations.c). */
 		st.f_type = CGROUP2_SUPER_MAGIC;
 		st.f_ffree = 0;
 	}
@@ -131,6 +142,7 @@ static bool answer_statfs(int listener, const struct seccomp_notif *call)
 
 /* ---------------------------------------------------------------- an open */
 
+/* What the call asks for, in this process's memory. */
 struct open_call {
 	int directory, flags;
 	uint64_t resolve;
@@ -156,6 +168,7 @@ static bool read_how(pid_t thread, unsigned long at, size_t size, struct open_ho
 	bool makes = how->flags & O_CREAT; /* as O_TMPFILE does: the kernel answers every open with that (read_open) */
 	if (how->flags & ~known_flags || how->mode & ~(makes ? 07777ULL : 0ULL) || how->resolve & ~known_rules)
 		return false;
+	/* The kernel's own rules: EINVAL. This returns false, and the kernel says so. */
 	if (how->resolve & RESOLVE_CACHED && (makes || how->flags & O_TRUNC))
 		return false;
 	return (how->resolve & (RESOLVE_BENEATH | RESOLVE_IN_ROOT)) != (RESOLVE_BENEATH | RESOLVE_IN_ROOT);
@@ -191,6 +204,8 @@ static bool read_open(const struct seccomp_notif *call, struct open_call *out)
 	return program_memory_text(thread, at, out->path, sizeof out->path);
 }
 
+/* Most opens end at the first look: the path leads nowhere near /proc, and the kernel opens the
+   file itself. */
 static bool answer_open(int listener, const struct seccomp_notif *call)
 {
 	struct open_call asked;
@@ -204,6 +219,7 @@ static bool answer_open(int listener, const struct seccomp_notif *call)
 	cleanup_fd int file = path_lookup_find(thread, asked.directory, asked.path, follows, asked.resolve, &from);
 	if (file < 0)
 		return answer_no_memory(listener, call);
+	/* -1 for all other files: the kernel opens them, as the program asked. */
 	cleanup_fd int text = procfiles_text(thread, file, from);
 	if (text == -1)
 		return false;
@@ -282,6 +298,7 @@ static bool answer_trace(int listener, const struct seccomp_notif *call)
 	__u64 request = call->data.args[0];
 	if (request != PTRACE_TRACEME && request != PTRACE_ATTACH && request != PTRACE_SEIZE)
 		return false;
+	/* Once in a run: a program may try it very often. */
 	if (!atomic_flag_test_and_set(&said))
 		say("run traces every process itself: strace, gdb and other tracers do not work inside it");
 	respond(listener, call, EPERM, 0);
@@ -333,6 +350,8 @@ void user_notification_answer(int listener, const struct seccomp_notif *call)
 		let_through(listener, call);
 }
 
+/* It may not wait, so nothing of the program is looked at. prlimit is refused, since the process
+   that it names may be one of makhloeum. */
 void user_notification_let_through(int listener, const struct seccomp_notif *call)
 {
 	if (call->data.nr == __NR_prlimit64)

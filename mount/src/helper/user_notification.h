@@ -7,6 +7,8 @@
 
 /* Waits for the next call; one thread at a time. False once the program has ended. */
 bool user_notification_next(int listener, struct seccomp_notif *call);
+/* Without a lock: this one may wait for the program, and the next one never does. The call is over
+   when they return. */
 void user_notification_answer(int listener, const struct seccomp_notif *call);
 void user_notification_let_through(int listener, const struct seccomp_notif *call);
 

@@ -26,8 +26,11 @@
 
 enum { PROCESS_ONE = 1 };
 
+/* Set before the mount, and not changed afterwards. NUMBERS: no number means a real process. */
 static enum { NUMBERS, ADOPTED, REPORTED } way;
 
+/* Real processes that were adopted, in no order. The descriptor means this process, whoever has
+   its number later. */
 static struct adopted {
 	pid_t pid;
 	int fd;
@@ -35,10 +38,13 @@ static struct adopted {
 static size_t adopted_count, adopted_room;
 static int deaths = -1; /* an epoll set of their pidfds */
 
+/* Whom the kill under way concerns: from host_processes_note to host_processes_kill_noted, with
+   the lock. */
 static pid_t *noted;
 static size_t noted_count, noted_room;
 static char noted_group[PATH_MAX_SAID];
 
+/* False with errno. */
 bool host_processes_adopt_all(void)
 {
 	way = ADOPTED;
@@ -57,7 +63,7 @@ static bool is_known(pid_t pid)
 	return is_pid(pid) && process_at(pid)->life != UNKNOWN;
 }
 
-/* Linux 6.13 */
+/* Linux 6.13. The kernel's own form: `mask` 1 asks for the numbers. */
 struct thread_info {
 	uint64_t mask, group;
 	uint32_t thread, process, others[9];
@@ -71,12 +77,15 @@ pid_t host_processes_process_of(pid_t thread)
 	cleanup_fd int fd = open_thread(thread);
 	if (fd >= 0 && ioctl(fd, GET_THREAD_INFO, &info) == 0)
 		return (pid_t)info.process;
+	/* Before Linux 6.13. The caller is in a call of the mount that waits for this answer, so its
+	   number is not another's. Without an answer it is taken for a process. */
 	long process = proc_status_number(thread, "Tgid:");
 	return process > 0 ? (pid_t)process : thread;
 }
 
 /* ---------------------------------------------------------------- mount --adopt */
 
+/* The descriptor first: what is found out afterwards is about this process, or it has ended. */
 static int remember(pid_t pid)
 {
 	int fd = open_process(pid);
@@ -98,6 +107,7 @@ static int remember(pid_t pid)
 	return 0;
 }
 
+/* To close the descriptor also takes it out of the set. */
 static void drop_adopted(pid_t pid)
 {
 	process_at(pid)->life = UNKNOWN;
@@ -109,7 +119,8 @@ static void drop_adopted(pid_t pid)
 		}
 }
 
-/* It is no child that has just been made: so it is remembered until it is waited for. */
+/* It is no child that has just been made: so it is remembered until it is waited for. It leaves
+   the set, or each look would find it again. */
 static void end_adopted(pid_t pid)
 {
 	process_at(pid)->life = ENDED;
@@ -123,6 +134,8 @@ static bool has_ended(pid_t pid)
 	return is_known(pid) && process_at(pid)->life == ENDED;
 }
 
+/* Until its parent has waited for it, a dead child is still listed, and would be taken for a new
+   one. */
 static void drop_ended(void)
 {
 	for (size_t i = adopted_count; i-- > 0;)
@@ -138,6 +151,7 @@ static int die(pid_t pid)
 	bool stood = fault == 0;
 	if (fault == -ENOMEM)
 		return fault;
+	/* Who was killed in the hierarchy has left that already. */
 	if (process_at(pid)->life != DYING && (fault = engine_line("exit %d", pid)) && fault != -ESRCH)
 		return fault;
 	end_adopted(pid);
@@ -146,8 +160,8 @@ static int die(pid_t pid)
 	return 0;
 }
 
-/* Called once the child's descriptor is open: whatever the number means now, a signal reaches a child of an adopted
-   process, or nothing. */
+/* Called once the child's descriptor is open: whatever the number means now, a signal reaches a
+   child of an adopted process, or nothing. */
 static bool is_child_of(pid_t child, pid_t parent)
 {
 	return proc_status_number(child, "PPid:") == parent;
@@ -156,6 +170,7 @@ static bool is_child_of(pid_t child, pid_t parent)
 /* 0 or -ENOMEM */
 static int adopt_child(pid_t parent, long child)
 {
+	/* The server may itself be a child of an adopted shell: it is left out. */
 	if (child <= PROCESS_ONE || child >= PIDS || is_known((pid_t)child) || child == getpid())
 		return 0;
 	int fault = remember((pid_t)child);
@@ -171,7 +186,8 @@ static int adopt_child(pid_t parent, long child)
 	return fault == -ENOMEM ? fault : 0;
 }
 
-/* The numbers in a list of any length, whose reads end anywhere. */
+/* The numbers in a list of any length, whose reads end anywhere. A number may be cut by the end of
+   a read: so it is collected digit by digit. */
 static int adopt_listed(pid_t parent, int list)
 {
 	char some[4096];
@@ -189,6 +205,7 @@ static int adopt_listed(pid_t parent, int list)
 }
 
 /* The children of each thread. 0 or -ENOMEM */
+/* The file `children` has those of one thread, so each thread's is read. */
 static int adopt_children(pid_t pid)
 {
 	char path[320];
@@ -196,6 +213,7 @@ static int adopt_children(pid_t pid)
 	int fault = 0;
 	snprintf(path, sizeof path, "%d/task", pid);
 	cleanup_directory DIR *threads = opendir(path);
+	/* It has ended meanwhile. */
 	if (!threads)
 		return errno == ENOMEM ? -ENOMEM : 0;
 	while (fault == 0 && (thread = readdir(threads))) {
@@ -225,6 +243,7 @@ static int drop_disowned(void)
 	return 0;
 }
 
+/* Births before deaths: the line of a fork names the parent, which has to be in the hierarchy. */
 static int sweep_adopted(void)
 {
 	struct epoll_event dead[16];
@@ -235,6 +254,7 @@ static int sweep_adopted(void)
 	for (size_t i = 0; i < adopted_count; i++)
 		if (!has_ended(adopted[i].pid) && (fault = adopt_children(adopted[i].pid)))
 			return fault;
+	/* It never waits. */
 	while ((n = epoll_wait(deaths, dead, 16, 0)) > 0)
 		for (int i = 0; i < n; i++)
 			if ((fault = die((pid_t)dead[i].data.u32)))
@@ -249,6 +269,7 @@ int host_processes_sweep(void)
 	return way == ADOPTED && adopted_count ? sweep_adopted() : 0;
 }
 
+/* 0 without --adopt: the engine alone decides about a number. */
 int host_processes_adopt(pid_t pid, bool *is_new)
 {
 	char group[PATH_MAX_SAID];
@@ -258,6 +279,7 @@ int host_processes_adopt(pid_t pid, bool *is_new)
 	if (way != ADOPTED || pid == PROCESS_ONE)
 		return 0;
 	if (is_known(pid) && !has_ended(pid)) {
+		/* It was to leave, and is wanted again. */
 		if (process_at(pid)->life == DISOWNED)
 			process_at(pid)->life = LIVE;
 		return 0;
@@ -279,6 +301,7 @@ int host_processes_adopt(pid_t pid, bool *is_new)
 
 void host_processes_disown(pid_t pid)
 {
+	/* If its exit can't be kept now, the next look tries it again. */
 	process_at(pid)->life = DISOWNED;
 	drop_disowned();
 }
@@ -300,12 +323,14 @@ static int note(pid_t pid, const char *group)
 
 int host_processes_note(const char *group)
 {
+	/* All memory is taken before the engine's line: afterwards nothing may fail. */
 	noted_count = 0;
 	snprintf(noted_group, sizeof noted_group, "%s", way == REPORTED ? group : "");
 	return way == NUMBERS ? 0 : members_each(group, true, note);
 }
 
 /* A number means the same process until its death is noticed; for an adopted process the descriptor tells. */
+/* SIGKILL reaches a frozen process too. */
 static void slay(pid_t pid)
 {
 	if (way == REPORTED) {
@@ -314,12 +339,14 @@ static void slay(pid_t pid)
 			kill(pid, SIGKILL); /* it fails if the process has ended */
 		return;
 	}
+	/* By the descriptor: the signal reaches this process or nobody. */
 	process_at(pid)->life = DYING;
 	for (size_t i = 0; i < adopted_count; i++)
 		if (adopted[i].pid == pid)
 			syscall(SYS_pidfd_send_signal, adopted[i].fd, SIGKILL, NULL, 0); /* it fails if the process has ended */
 }
 
+/* Reservations after the processes: a child whose creator was killed is not allowed to run either. */
 void host_processes_kill_noted(void)
 {
 	for (size_t i = 0; i < noted_count; i++)

@@ -20,6 +20,7 @@ void host_processes_are_reported(void); /* for run */
 
 /* Before an operation: sends the engine an exit for each that died, and a fork for each child that it does not know. 0, or
    -ENOMEM if it could not look at all of them: then the operation fails. */
+/* It may read /proc with --adopt. Under `run` it waits for nothing. */
 int host_processes_sweep(void);
 /* The process of a thread. */
 pid_t host_processes_process_of(pid_t thread);

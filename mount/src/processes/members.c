@@ -4,6 +4,7 @@
 #include <stdlib.h>
 #include <string.h>
 
+/* `take` may not ask the engine, since it reads the engine's text meanwhile. */
 static int each_in(const char *group, bool all, int (*take)(pid_t pid, const char *group))
 {
 	size_t size;
@@ -21,11 +22,13 @@ static int each_in(const char *group, bool all, int (*take)(pid_t pid, const cha
 	return fault;
 }
 
+/* It takes one look for the paths, and one for each group. */
 int members_each(const char *top, bool all, int (*take)(pid_t pid, const char *group))
 {
 	const char *paths;
 	size_t count;
 	WANTS_LOCK();
+	/* The paths have a buffer of their own, which the looks in the loop leave alone. */
 	int fault = engine_groups(top, &paths, &count);
 	for (; fault == 0 && count--; paths += strlen(paths) + 1)
 		fault = each_in(paths, all, take);

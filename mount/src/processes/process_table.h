@@ -14,6 +14,7 @@ enum life { UNKNOWN, LIVE, DYING, DISOWNED, ENDED };
 
 struct process {
 	/* tasks.c: the process whose thread this number is, or 0; the ring of the threads of a process */
+	/* 0 means none in each of these fields. */
 	pid_t thread_of, next_thread, thread_before;
 	pid_t next_order; /* server/freezer.c: the process that the order after this one's is about */
 	unsigned zombie; /* zombies.c: its place in their list, from 1; 0: it is no zombie */

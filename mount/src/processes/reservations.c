@@ -5,14 +5,17 @@
 #include <stdlib.h>
 #include <string.h>
 
+/* The newest first. This file owns them. */
 static struct reservation *all;
 static size_t count;
 
+/* The numbers count on, so an old one does not mean a new reservation for a very long time. */
 int reservations_add(const struct reservation *like, const char *group, unsigned *number)
 {
 	static unsigned last;
 	WANTS_LOCK();
 	size_t size = strlen(group) + 1;
+	/* With the text of its group in the same piece of memory. */
 	struct reservation *r = malloc(sizeof *r + size);
 	if (!r)
 		return -ENOMEM;
@@ -28,6 +31,7 @@ int reservations_add(const struct reservation *like, const char *group, unsigned
 	return 0;
 }
 
+/* NULL for 0, which is no reservation's number. */
 const struct reservation *reservations_find(unsigned number)
 {
 	WANTS_LOCK();
@@ -37,6 +41,7 @@ const struct reservation *reservations_find(unsigned number)
 	return r;
 }
 
+/* A number that there is not is no fault: the reservation may have ended. */
 void reservations_drop(unsigned number)
 {
 	WANTS_LOCK();
@@ -57,6 +62,7 @@ size_t reservations_count(void)
 	return count;
 }
 
+/* There are few at a time: as many as calls under way, and what is allowed in advance. */
 long reservations_below(const char *group)
 {
 	long below = 0;
@@ -66,6 +72,8 @@ long reservations_below(const char *group)
 	return below;
 }
 
+/* The child may exist by now or come later: its birth finds the mark, and the child is not allowed
+   to run. */
 void reservations_kill(const char *group)
 {
 	WANTS_LOCK();

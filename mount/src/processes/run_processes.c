@@ -18,10 +18,13 @@
 #include <stdlib.h>
 #include <string.h>
 
+/* The engine's first process, in the root. Under `run` no real process has this number in the
+   hierarchy. */
 enum { PROCESS_ONE = 1 };
 
 static size_t known_count; /* processes and threads that are not UNKNOWN */
 
+/* It counts them, and may wrap around: only equality matters. */
 static unsigned long operations; /* of the file system: each may change what was allowed */
 
 static bool is_of_run(pid_t pid)
@@ -31,7 +34,8 @@ static bool is_of_run(pid_t pid)
 
 /* ---------------------------------------------------------------- before a birth */
 
-/* 1 if one more does not fit into this group; 0 if it does; -errno if it can't be known, and then nothing may be made. */
+/* 1 if one more does not fit into this group; 0 if it does; -errno if it can't be known, and then
+   nothing may be made. Reservations count like processes, since each may become one at any moment. */
 static int is_full(const char *group, bool with_reserved)
 {
 	uint64_t most, count;
@@ -42,6 +46,7 @@ static int is_full(const char *group, bool with_reserved)
 	return fault ? fault : count + (uint64_t)(with_reserved ? reservations_below(group) : 0) + 1 > most;
 }
 
+/* The root has no limit. */
 static int is_any_full(const char *group, bool with_reserved)
 {
 	char at[PATH_MAX_SAID];
@@ -52,7 +57,8 @@ static int is_any_full(const char *group, bool with_reserved)
 	return full;
 }
 
-/* A number that no process has; or -ENOMEM. */
+/* A number that no process has; or -ENOMEM. From the highest number down, where real processes are
+   seldom. It is in use for this operation only. */
 static pid_t free_number(pid_t below)
 {
 	char group[PATH_MAX_SAID];
@@ -64,8 +70,8 @@ static pid_t free_number(pid_t below)
 	return PROCESS_ONE;
 }
 
-/* The engine counts only a refusal that it makes itself. If only reservations fill the group, temporary processes take
-   their places meanwhile. */
+/* The engine counts only a refusal that it makes itself. If only reservations fill the group,
+   temporary processes take their places meanwhile. Each exits again before this returns. */
 static int refuse(pid_t parent, const char *group)
 {
 	pid_t lowest = PIDS;
@@ -78,13 +84,16 @@ static int refuse(pid_t parent, const char *group)
 		if (fault == 0)
 			zombies_add_gone(lowest);
 	}
+	/* This sends the exits of the temporary processes, within the same operation. */
 	zombies_sweep(false);
 	engine_finish(0);
+	/* The engine has counted the refusal: files of events have changed. */
 	if (fault == -EAGAIN)
 		watch_above(group);
 	return fault == -ENOMEM ? -ENOMEM : -EAGAIN;
 }
 
+/* A line of a birth could not be kept. */
 static bool trace_may_be_full;
 
 enum { AS_LONG_AS_A_FORK = 64 };
@@ -105,12 +114,14 @@ static int find_place(pid_t parent, const char *group, char at[PATH_MAX_SAID])
 {
 	int fault;
 	snprintf(at, PATH_MAX_SAID, "%s", group ? group : "/");
+	/* A group that is named may be gone, or may not take processes. */
 	if (group)
 		return (fault = engine_has_group(group)) ? fault : controllers_may_enter(group);
 	fault = parent ? engine_where(parent, at, PATH_MAX_SAID) : -ESRCH;
 	return fault == -ESRCH ? 0 : fault; /* if there is none, its own fork was undone */
 }
 
+/* What the supervisor has taken already stays allowed: its call is under way. */
 static void allow_none(void)
 {
 	for (unsigned unused = advance_take_any(); unused; unused = advance_take_any())
@@ -119,11 +130,14 @@ static void allow_none(void)
 
 void run_processes_operation(void)
 {
+	/* A birth that was allowed before this is checked again (put). */
 	operations++;
 	allow_none();
 }
 
-/* A process in this group has made a thread or a child: it may make some more without a question, if the limits allow that now. */
+/* A process in this group has made a thread or a child: it may make some more without a question,
+   if the limits allow that now. Room for its end comes first: an end must not fail. It stops where
+   the limits, or memory, allow no more. */
 static void allow_next(pid_t process, bool is_thread, const char *group)
 {
 	const struct reservation like = { .parent = process,
@@ -136,8 +150,8 @@ static void allow_next(pid_t process, bool is_thread, const char *group)
 		reservations_drop(advance_give(process, is_thread, next));
 }
 
-/* The same with reservations, once what only seems to be there has left: what was allowed in advance, and zombies that were waited
-   for. */
+/* The same with reservations, once what only seems to be there has left: what was allowed in
+   advance, and zombies that were waited for. The cheap look comes first: most groups are not full. */
 static int is_full_at_last(const char *group)
 {
 	int full = is_any_full(group, true);
@@ -157,6 +171,7 @@ static int may_make(pid_t parent)
 		fault = zombies_sweep(false);
 	if (fault)
 		return fault;
+	/* A process that a kill has reached may not fork any more: its child would escape the kill. */
 	bool is_known = is_of_run(parent) || parent == 0;
 	return is_known && process_at(parent)->life != DYING && has_room(parent) ? 0 : -EAGAIN;
 }
@@ -169,6 +184,7 @@ int run_processes_reserve(pid_t parent, const char *group, bool is_thread, unsig
 		fault = find_place(parent, is_thread ? NULL : group, at);
 	if (fault)
 		return fault;
+	/* A thread can't be in another group than its process. */
 	if (is_thread && group && strcmp(group, at) != 0)
 		return -EOPNOTSUPP;
 	const struct reservation like = { .parent = parent,
@@ -184,6 +200,7 @@ int run_processes_reserve(pid_t parent, const char *group, bool is_thread, unsig
 /* ---------------------------------------------------------------- births and deaths */
 
 /* A move checks no limit, and process 1 is in the root, which has none: the child was allowed already. */
+/* One operation of two lines: so an undo takes both back. */
 static int place(pid_t child, const char *group)
 {
 	int fault = engine_begin();
@@ -205,6 +222,8 @@ static int put(const struct reservation *r, pid_t child, char at[PATH_MAX_SAID],
 	if (*has_parent && (fault = engine_line("fork %d %d", r->parent, child)) != -ESRCH)
 		return fault;
 	fault = r->elsewhere || !r->parent ? -ESRCH : engine_where(r->parent, at, PATH_MAX_SAID);
+	/* If the group of a reservation was removed meanwhile, the child has no place: -ENOENT, and it
+	   does not run. */
 	*has_parent = fault == 0;
 	if (fault == -ENOMEM || (fault = engine_has_group(at)))
 		return fault;
@@ -220,6 +239,7 @@ static int tell(const struct reservation *r, pid_t child, bool *frozen)
 	bool has_parent;
 	if (!is_of_run(child) || !zombies_settle(child))
 		return -EAGAIN;
+	/* -ESRCH: the supervisor kills the child. */
 	if (r->killed || process_at(r->parent)->life == DYING)
 		return -ESRCH;
 	/* whom its parent has waited for since the last question leaves first: else the peak would have both */
@@ -229,8 +249,11 @@ static int tell(const struct reservation *r, pid_t child, bool *frozen)
 	if (fault)
 		return fault;
 	struct process *c = process_at(child);
+	/* The number may still be known as that of a process that a kill took out of the hierarchy. */
 	known_count += c->life == UNKNOWN;
 	c->life = LIVE;
+	/* A group that was empty may be populated now. In the group of its parent, which is populated,
+	   a child changes nothing. */
 	if (!has_parent)
 		watch_above(at);
 	if (r->is_thread)
@@ -250,6 +273,7 @@ int run_processes_born(unsigned reservation, pid_t child, bool *frozen)
 		return -EAGAIN;
 	int fault = tell(r, child, frozen);
 	reservations_drop(reservation);
+	/* All other errnos are those of a device that could not keep the line. */
 	if (fault == 0 || fault == -ESRCH || fault == -ENOENT || fault == -ENOMEM)
 		return fault;
 	trace_may_be_full = true;
@@ -257,7 +281,8 @@ int run_processes_born(unsigned reservation, pid_t child, bool *frozen)
 	return -EAGAIN;
 }
 
-/* Nobody waits for a thread. */
+/* Nobody waits for a thread. So it leaves the hierarchy at once. If the line can't be kept, it
+   counts until a sweep keeps it. */
 static void thread_ended(pid_t thread)
 {
 	struct process *t = process_at(thread);
@@ -280,6 +305,7 @@ void run_processes_exited(pid_t pid)
 		return;
 	}
 	struct process *p = process_at(pid);
+	/* A killed process has left the hierarchy already, at the kill. */
 	bool stands = p->life == LIVE && engine_where(pid, group, sizeof group) != -ESRCH;
 	p->life = UNKNOWN;
 	known_count--;
@@ -290,6 +316,7 @@ void run_processes_exited(pid_t pid)
 	reservations_drop(advance_take(pid, false));
 	if (!stands)
 		return;
+	/* It counts on, but is not listed: so `populated` may change. */
 	zombies_add(pid);
 	watch_process(pid);
 }
@@ -305,6 +332,7 @@ int run_processes_sweep(void)
 /* A program may write any number; a process that is not its own stays where it is. */
 int run_processes_move(pid_t pid)
 {
+	/* As in the kernel: a move of a zombie succeeds and has no effect. */
 	if (zombies_has(pid))
 		return 1;
 	if (pid == PROCESS_ONE)
@@ -318,7 +346,8 @@ static int is_alive(pid_t pid, const char *group)
 	return !zombies_has(pid);
 }
 
-/* If a line fails, those that were moved stay above, where they count anyway. */
+/* If a line fails, those that were moved stay above, where they count anyway. The list is copied,
+   since each line replaces the engine's text. */
 static int move_all(const char *group, const char *to)
 {
 	size_t size;
@@ -339,8 +368,10 @@ int run_processes_leave(const char *group)
 	char above[PATH_MAX_SAID];
 	const char *names;
 	size_t count;
+	/* Without zombies the engine decides alone. */
 	if (zombies_count() == 0 || is_root(group))
 		return 0;
+	/* A group with groups below it can't be removed anyhow. */
 	int fault = engine_children(group, &names, &count);
 	if (fault || count)
 		return fault;
@@ -356,6 +387,7 @@ bool run_processes_kill(pid_t pid)
 {
 	if (!is_of_run(pid) || zombies_forget(pid) || process_at(pid)->life == UNKNOWN)
 		return false;
+	/* The engine's line takes all of them out. Real threads end with their process. */
 	for (pid_t t = pid; t; t = tasks_next(t))
 		process_at(t)->life = DYING;
 	return true;

@@ -15,7 +15,8 @@ int run_processes_reserve(pid_t parent, const char *group, bool is_thread, unsig
 int run_processes_born(unsigned reservation, pid_t child, bool *frozen);
 /* An operation of the file system begins: no thread that was not made yet is allowed in advance (advance.h). */
 void run_processes_operation(void);
-/* A process is a zombie: it counts until its parent waits for it, and is no longer listed. A thread is gone. */
+/* A process is a zombie: it counts until its parent waits for it, and is no longer listed. A
+   thread is gone. It cannot fail: what it needs was taken before the birth. */
 void run_processes_exited(pid_t pid);
 
 /* Zombies that were waited for exit, and an exit whose line could not be kept is tried again. 0 or -ENOMEM */

@@ -6,8 +6,10 @@
 #include <errno.h>
 
 /* The threads of a process that have not ended are a ring that begins and ends at the process. */
-static bool any;
 
+static bool any; /* there was a thread once: until then no list has to be shortened */
+
+/* The number may have been that of a thread before. */
 void tasks_begin_process(pid_t process)
 {
 	WANTS_LOCK();
@@ -21,6 +23,7 @@ void tasks_add(pid_t thread, pid_t process)
 	if (!is_pid(thread) || !is_pid(process))
 		return;
 	struct process *t = process_at(thread), *first = process_at(process);
+	/* The new thread comes last in the ring: before the process, after the newest. */
 	pid_t last = first->thread_before ? first->thread_before : process;
 	t->thread_of = t->next_thread = process;
 	t->thread_before = last;
@@ -35,11 +38,13 @@ void tasks_drop(pid_t thread)
 	struct process *t = is_pid(thread) ? process_at(thread) : NULL;
 	if (!t || !t->next_thread)
 		return;
+	/* `thread_of` stays: it says that the number is a thread's, and an undo may bring that back. */
 	process_at(t->thread_before)->next_thread = t->next_thread;
 	process_at(t->next_thread)->thread_before = t->thread_before;
 	t->next_thread = t->thread_before = 0;
 }
 
+/* It stays true after the thread's end, until the number is that of a process. */
 bool tasks_is_thread(pid_t number)
 {
 	return is_pid(number) && process_at(number)->thread_of != 0;
@@ -51,18 +56,21 @@ bool tasks_any(void)
 	return any;
 }
 
+/* A thread that has ended has left the ring: its next thread is 0. */
 pid_t tasks_process(pid_t number)
 {
 	return tasks_is_thread(number) && process_at(number)->next_thread ? process_at(number)->thread_of : number;
 }
 
+/* The ring ends at the process, which is no thread. */
 pid_t tasks_next(pid_t number)
 {
 	pid_t next = is_pid(number) ? process_at(number)->next_thread : 0;
 	return tasks_is_thread(next) ? next : 0;
 }
 
-/* A thread whose birth was undone, or could not be kept, is not in the hierarchy. */
+/* A thread whose birth was undone, or could not be kept, is not in the hierarchy. It has no group,
+   and is left out. */
 static int move_threads(pid_t process, const char *group)
 {
 	char from[PATH_MAX_SAID];
@@ -82,6 +90,8 @@ int tasks_move(pid_t process, const char *group)
 	int fault = engine_begin();
 	if (fault)
 		return fault;
+	/* One line for the process and one for each thread. If one fails, engine_finish undoes those
+	   before it. */
 	fault = engine_line("write %s cgroup.procs %d", group, process);
 	if (fault == 0)
 		fault = move_threads(process, group);

@@ -25,6 +25,7 @@ static bool has_ended(pid_t process)
 	return fd >= 0 && space < 0 && errno == ESRCH;
 }
 
+/* cgroup.procs leaves out threads, cgroup.threads a first thread that has ended. */
 static bool is_listed(pid_t pid, bool threads)
 {
 	if (zombies_has(pid))
@@ -33,6 +34,7 @@ static bool is_listed(pid_t pid, bool threads)
 }
 
 /* Leaves out those that are not listed. */
+/* In place: what is kept moves to the front. */
 static size_t shorten(char *procs, bool threads)
 {
 	char *to = procs;
@@ -68,7 +70,9 @@ static int are_all_zombies(const char *group)
 
 int visible_processes_text(const char *group, const struct file *file, const char **text, size_t *size)
 {
+	/* It keeps its memory for the next text. With the lock. */
 	static char *own;
+	/* Most mounts have no zombie and no thread: then the engine's text is right. */
 	if ((zombies_count() == 0 && !tasks_any()) || *size == 0)
 		return 0;
 	bool threads = strcmp(file->name, "cgroup.threads") == 0,

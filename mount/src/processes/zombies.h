@@ -10,7 +10,8 @@
 /* Before a process is made: room for its end, for that of all others, and for a number of others, which have no process yet. Then there is
    room when one ends, which must not fail. 0 or -ENOMEM */
 int zombies_make_room(size_t more);
-/* It has ended. It may have been waited for, and another process may have its number. */
+/* It has ended. It may have been waited for, and another process may have its number. It opens a
+   descriptor of the process if it may, and looks up no path. */
 void zombies_add(pid_t pid);
 /* There is no such process any more: only its exit is missing. */
 void zombies_add_gone(pid_t pid);

@@ -9,6 +9,7 @@
 #include <unistd.h>
 
 /* Whether a folder of PATH has a file of this name. An empty word is the working directory. */
+/* A file that may not be executed counts too: then the errno is EACCES. */
 static bool is_on_path(const char *name)
 {
 	char file[PATH_MAX], usual[PATH_MAX];
@@ -27,6 +28,7 @@ static bool is_on_path(const char *name)
 /* execvp fails with EACCES too if one of the folders may not be searched. A shell then says that it found nothing. */
 int execute(const char *name, char **words)
 {
+	/* It returns only if it fails. */
 	execvp(name, words);
 	if (errno == EACCES && !strchr(name, '/'))
 		errno = is_on_path(name) ? EACCES : ENOENT;

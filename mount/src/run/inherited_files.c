@@ -9,10 +9,12 @@
 #include <sys/stat.h>
 #include <sys/vfs.h>
 
+/* From inherited_files_let_go in the caller's namespace to inherited_files_enter in the program's. */
 static bool is_in_groups;
 
 /* The type of the file system says it, wherever it is mounted. Machines with cgroup v1 have its hierarchies in a tmpfs, whose path
    says it; the run's mount covers that path. */
+/* It sends a request to the file system of the descriptor, before the program runs. */
 static bool is_of_groups(int fd, const char *link)
 {
 	char path[PATH_MAX];
@@ -51,6 +53,7 @@ bool inherited_files_let_go(void)
 	while ((entry = readdir(all))) {
 		int fd = entry->d_name[0] == '.' ? -1 : (int)strtol(entry->d_name, NULL, 10);
 		snprintf(link, sizeof link, "/proc/self/fd/%d", fd);
+		/* The two that this function has opened itself are left out. */
 		if (fd < 0 || fd == folder || fd == dirfd(all) || !is_of_groups(fd, link))
 			continue;
 		if (!let_go(fd, "in the machine's own cgroups, which a run does not have"))
@@ -59,6 +62,7 @@ bool inherited_files_let_go(void)
 	return true;
 }
 
+/* So a directory that was moved or replaced is not taken for the old one. */
 static bool is_same_file(int one, int other)
 {
 	struct stat a, b;
@@ -73,10 +77,13 @@ static bool open_again(int fd)
 	snprintf(link, sizeof link, "/proc/self/fd/%d", fd);
 	ssize_t n = readlink(link, path, sizeof path - 1);
 	path[n > 0 ? n : 0] = 0;
+	/* O_NOFOLLOW: the path has no link at its end. What is found has to be the same directory. */
 	cleanup_fd int again = open(path, fcntl(fd, F_GETFL) | O_DIRECTORY | O_NOFOLLOW | O_CLOEXEC);
 	if (again < 0 || !is_same_file(fd, again))
 		return false;
 	lseek(again, lseek(fd, 0, SEEK_CUR), SEEK_SET); /* what was opened as a path has no place */
+	/* The number stays: the program knows the descriptor by it. The old open file is closed by
+	   this. */
 	return dup2(again, fd) == fd;
 }
 
@@ -101,6 +108,8 @@ static bool open_all_again(void)
 	return all != NULL;
 }
 
+/* The paths are looked up in the namespaces of the program, where the hierarchy covers the
+   machine's groups. */
 bool inherited_files_enter(void)
 {
 	if (!open_all_again())

@@ -14,6 +14,8 @@
 #define CALL(name) #name, SYS_##name
 enum { NOTHING = -1, ALL = -1 };
 
+/* A sandbox's filter may refuse a call that the kernel has. That is found here, before the run
+   begins, and not by a program that fails later. */
 static const struct need {
 	const char *name;
 	long number, arguments[6];
@@ -72,6 +74,8 @@ static const struct need {
 };
 
 /* Where the kernel has no clone3, the C library makes an older call. */
+/* EPERM, EACCES and ENOSYS are what sandboxes answer. Any other result shows that the kernel has
+   made the call. */
 static bool is_refused(const struct need *n)
 {
 	const long *a = n->arguments;
@@ -82,6 +86,7 @@ static bool is_refused(const struct need *n)
 /* Below this bound a process of a run may have no descriptor for the call of the program that it answers: the kernel would answer. */
 enum { FILES_LEAST = 32 };
 
+/* Each call is made once, and has no effect. */
 bool needs_are_met(void)
 {
 	struct rlimit files;

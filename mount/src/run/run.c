@@ -22,6 +22,7 @@
 #include "server/supervisor_questions.h"
 #include "server/watch.h"
 #include "supervisor/births.h"
+#include "supervisor/calls.h"
 #include "supervisor/filter.h"
 #include "supervisor/frozen_threads.h"
 #include "supervisor/job_control.h"
@@ -41,12 +42,13 @@
 #include <sys/wait.h>
 #include <unistd.h>
 
+/* The status of a run (`makhloeum --help`). PATIENCE: how often the server's end is looked for, every 10 milliseconds. */
 enum { REFUSED_HERE = 2, NOT_EXECUTABLE = 126, NOT_FOUND = 127, KILLED = 128, PATIENCE = 200 };
 
 /* ---------------------------------------------------------------- what the program inherits */
 
-/* The program starts with the signals as this process got them. Here none is blocked at first, and a child that has ended is
-   waited for. */
+/* The program starts with the signals as this process got them. Here none is blocked at first, and a child that has
+   ended is waited for. */
 static struct signal_action found[SIGNALS + 1];
 static sigset_t found_blocked;
 
@@ -76,6 +78,7 @@ static void nothing(void)
 {
 }
 
+/* The server's number in the parent; -1 with errno. In the child it does not return. */
 static pid_t start_server(int connection, const int ends[2])
 {
 	char where[32];
@@ -83,6 +86,7 @@ static pid_t start_server(int connection, const int ends[2])
 	if (pid)
 		return pid;
 	own_processes_ignore_signals(); /* it answers no call before, and the program begins after one; libfuse leaves them so */
+	/* The supervisor's end: while this process had it, the end of the supervisor would not be seen. */
 	close(ends[0]);
 	mount_root_end();
 	table_channel_be(TABLE_CHANNEL_SERVER);
@@ -100,9 +104,9 @@ static pid_t start_server(int connection, const int ends[2])
 
 /* ---------------------------------------------------------------- the program */
 
-/* With --root the program has every capability over what is in its namespace. What is not dumpable belongs to the namespace
-   in which makhloeum was started, so the program reaches no uncounted process by ptrace or by its memory. (A sanitizer
-   looks for leaks by ptrace.) */
+/* With --root the program has every capability over what is in its namespace. What is not dumpable belongs to the
+   namespace in which makhloeum was started, so the program reaches no uncounted process by ptrace or by its memory. (A
+   sanitizer looks for leaks by ptrace.) */
 static void hide(bool hidden)
 {
 #ifndef __SANITIZE_ADDRESS__
@@ -152,17 +156,17 @@ static void hear_helper(void)
 		if (reply.about == CLONE3_ARGUMENTS)
 			births_arguments(&reply);
 		else
-			tracer_filters(&reply);
+			calls_filters(&reply);
 }
 
-/* Of two times to wait; -1: without an end. */
+/* Of two times to wait; -1: without an end. In milliseconds. */
 static int sooner(int one, int other)
 {
 	return one < 0 || (other >= 0 && other < one) ? other : one;
 }
 
-/* The program decides how often it forks and ends, and how long a read of its memory takes. A turn takes the pending stops,
-   answers each thread once, and then looks at the signals and the server again. */
+/* The program decides how often it forks and ends, and how long a read of its memory takes. A turn takes the pending
+   stops, answers each thread once, and then looks at the signals and the server again. */
 static int watch_over(const struct ears *ears, pid_t program)
 {
 	int status = 0;
@@ -170,16 +174,20 @@ static int watch_over(const struct ears *ears, pid_t program)
 	struct pollfd from[] = { { .fd = ears->signals, .events = POLLIN }, { .fd = ears->link },
 		{ .fd = ears->helper, .events = POLLIN }, { .fd = ears->freezer, .events = POLLIN } };
 	for (;;) {
+		/* Signals first: tracer_look forgets processes, by whose numbers the senders are known. */
 		if (from[0].revents)
 			signals_hear(program);
+		/* Each turn, whatever the poll said: a SIGCHLD may have come since. */
 		bool more = tracer_look();
 		if (tracer_has_ended(&status))
 			break;
+		/* After the stops: a thread may have been killed since its question. */
 		if (from[2].revents)
 			hear_helper();
 		orders = (orders || from[3].revents) && tracer_obey();
 		int next = sooner(job_control_follow(program), signals_pass_on(program)); /* in this order: it takes some too */
 		next = sooner(sooner(sooner(next, births_give_up()), frozen_threads_look_again()), link_wake_late());
+		/* The only place where the supervisor waits for the program. */
 		if (poll(from, sizeof from / sizeof *from, more || orders ? 0 : next) < 0 && errno != EINTR)
 			break;
 		for (int i = 1; i < 3; i++)
@@ -190,12 +198,13 @@ static int watch_over(const struct ears *ears, pid_t program)
 				break;
 			}
 	}
+	/* The helper after that: a call that waits for it is killed first, and never returns to the program. */
 	tracer_end_rest();
 	helper_end();
 	return WIFEXITED(status) ? WEXITSTATUS(status) : KILLED + WTERMSIG(status);
 }
 
-/* Ends a program that was not allowed to run. */
+/* Ends a program that was not allowed to run. It is traced or not yet; both end by SIGKILL. */
 static int give_up(pid_t program, const char *why)
 {
 	int status;
@@ -215,6 +224,7 @@ static int supervise(char **program, const struct wishes *wishes, int signals, i
 		say("this machine does not allow a socket: %s", strerror(errno));
 		return REFUSED_HERE;
 	}
+	/* Without a terminal it is -1. NOCTTY: it does not become one. */
 	job_control_begin(open("/dev/tty", O_RDWR | O_NOCTTY | O_CLOEXEC));
 	/* this process, not the machine's first one, waits for the orphans that the program leaves */
 	prctl(PR_SET_CHILD_SUBREAPER, 1, 0, 0, 0); /* it cannot fail */
@@ -231,6 +241,7 @@ static int supervise(char **program, const struct wishes *wishes, int signals, i
 	sigprocmask(SIG_SETMASK, &held, NULL); /* as above */
 	close(control[1]);
 	char there;
+	/* The program's process is in its namespaces then, and waits. */
 	if (pid >= 0 && read(control[0], &there, 1) != 1)
 		return give_up(pid, NULL); /* it has said why */
 	/* traced before it has its filter: a call that the filter sends to no tracer fails with ENOSYS */
@@ -242,6 +253,7 @@ static int supervise(char **program, const struct wishes *wishes, int signals, i
 		say("%s", why);
 		return REFUSED_HERE;
 	}
+	/* The listener comes as soon as the filter is installed. */
 	int listener;
 	if (write(control[0], "", 1) != 1 || !descriptor_passing_take(control[0], &there, 1, &listener, 1, 0))
 		return give_up(pid, "this machine does not allow seccomp notification");
@@ -253,8 +265,8 @@ static int supervise(char **program, const struct wishes *wishes, int signals, i
 	}
 	if (write(control[0], "", 1) != 1)
 		return give_up(pid, "the program was killed before it began");
-	/* The listener stays open here. If the helper is killed, calls of the program wait until it is killed too; without a listener
-	   they would fail with ENOSYS. */
+	/* The listener stays open here. If the helper is killed, calls of the program wait until it is killed too; without
+	   a listener they would fail with ENOSYS. */
 	struct ears ears = { signals, link, helper, freezer };
 	frozen_threads_begin(freezer);
 	return watch_over(&ears, pid);
@@ -269,6 +281,7 @@ static void end_server(pid_t server, int end)
 	struct pollfd from = { .fd = ended, .events = POLLIN };
 	umount2(cgroup_mount, MNT_DETACH); /* it cannot fail: the program is in this namespace only if it may not unmount */
 	close(end); /* after that: a second after its last question the server ends whatever it does */
+	/* At most two seconds: a server that is held up is killed. */
 	for (int i = 0; i < PATIENCE; i++) {
 		if (waitpid(server, &status, WNOHANG))
 			return; /* it has ended, or was waited for by the tracer */
@@ -281,6 +294,7 @@ static void end_server(pid_t server, int end)
 }
 
 /* Whether there is a tracer, as inside another run. */
+/* Before this process enters a namespace, so /proc is the caller's. */
 static bool is_traced(void)
 {
 	char line[128];
@@ -292,8 +306,8 @@ static bool is_traced(void)
 	return tracer != 0;
 }
 
-/* The mount, its companion and its server: the server, or -1 after an error message. The supervisor's part of the companion
-   and of the engine ends here. */
+/* The mount, its companion and its server: the server, or -1 after an error message. The supervisor's part of the
+   companion and of the engine ends here. */
 static pid_t start_mount(int ends[2], int *freezer, pid_t *companion)
 {
 	if (!link_make(ends) || !freezer_begin(freezer) || !table_channel_begin()) {
@@ -304,6 +318,7 @@ static pid_t start_mount(int ends[2], int *freezer, pid_t *companion)
 		say("out of memory");
 		return -1;
 	}
+	/* The mount exists from here on, and answers once the server has begun. */
 	int connection = run_namespaces_mount();
 	if (connection < 0)
 		return -1;
@@ -320,9 +335,11 @@ static pid_t start_mount(int ends[2], int *freezer, pid_t *companion)
 	copy = -1;
 	pid_t server = start_server(connection, ends);
 	int fault = errno;
+	/* The mount ends with the last copy of it: only the server has one now. */
 	close(connection);
 	close(ends[1]);
 	table_channel_be(TABLE_CHANNEL_HELPER);
+	/* The supervisor only keeps its number, to kill it at the end. */
 	*companion = watch_leave();
 	own_processes_add(*companion);
 	engine_end();
@@ -360,6 +377,7 @@ int run_program(char **program, const struct wishes *asked)
 	look.marked = true;
 	look.no_threads = wishes.no_threads;
 	hide(true);
+	/* Before the server is forked, which inherits this. */
 	host_processes_are_reported();
 	pid_t server = start_mount(ends, &freezer, &companion);
 	if (server < 0)

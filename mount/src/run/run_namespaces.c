@@ -19,6 +19,7 @@
 /* The kernel accepts less than a page of text; two lines are shorter than TWO_LINES. */
 enum { MAP_SIZE = 4096, TWO_LINES = 80 };
 
+/* One write: the kernel takes a map only as a whole. */
 static bool put(const char *file, const char *text)
 {
 	int fd = open(file, O_WRONLY | O_CLOEXEC);
@@ -31,7 +32,8 @@ static bool put(const char *file, const char *text)
 	return done;
 }
 
-/* With the map of one user, which a process writes for itself; the numbers are read before it has none there. */
+/* With the map of one user, which a process writes for itself; the numbers are read before it has
+   none there. Without `deny` an unprivileged process may not write a map of groups. */
 static bool enter_alone(bool as_root)
 {
 	char users[64], groups[64];
@@ -43,6 +45,7 @@ static bool enter_alone(bool as_root)
 
 /* Gives a process the user numbers that this one has, each mapped to itself. 0 has its own line: programs take a map of one
    line with all numbers for the machine's first user namespace, where they expect to be allowed more. */
+/* `which`: uid_map or gid_map. */
 static bool map_all(pid_t pid, const char *which)
 {
 	char path[40], text[MAP_SIZE] = "";
@@ -59,6 +62,7 @@ static bool map_all(pid_t pid, const char *which)
 		size += (size_t)sprintf(text + size, "%u %u %u\n", inside, inside, count);
 	}
 	snprintf(path, sizeof path, "/proc/%d/%s", pid, which);
+	/* A map that was not read to its end would leave users out. */
 	return own && feof(own) && put(path, text);
 }
 
@@ -72,6 +76,7 @@ static bool enter_with_all(void)
 	if (pipe2(is_in, O_CLOEXEC))
 		return false;
 	pid_t writer = fork();
+	/* It has the old namespace, and with it the right to write maps. */
 	if (writer == 0) {
 		close(is_in[1]);
 		if (own_processes_die_with(self) && read(is_in[0], &byte, 1) == 1 && map_all(self, "uid_map") &&
@@ -85,10 +90,13 @@ static bool enter_with_all(void)
 	close(is_in[1]);
 	while (writer > 0 && waitpid(writer, &status, 0) < 0 && errno == EINTR)
 		;
+	/* The writer's status is its errno. */
 	errno = !entered ? fault : WIFEXITED(status) ? WEXITSTATUS(status) : EIO;
 	return errno == 0;
 }
 
+/* Both namespaces in one call: the mount namespace then belongs to the user namespace, whose user
+   may mount there. */
 bool run_namespaces_enter(const struct wishes *wishes)
 {
 	if (wishes->users && geteuid()) {
@@ -96,12 +104,14 @@ bool run_namespaces_enter(const struct wishes *wishes)
 		return false;
 	}
 	bool entered = wishes->users ? enter_with_all() : enter_alone(wishes->as_root);
+	/* Private: what is mounted here must not appear in the caller's namespace. */
 	if (entered && mount("none", "/", NULL, MS_REC | MS_PRIVATE, NULL) == 0)
 		return true;
 	say("this machine does not allow user namespaces: %s", strerror(errno));
 	return false;
 }
 
+/* A user who is not the superuser gets none: without capabilities it can unmount nothing. */
 bool run_namespaces_enter_below(const struct wishes *wishes)
 {
 	bool is_superuser = wishes->users || wishes->as_root;
@@ -122,6 +132,7 @@ void run_namespaces_give_up_rights(void)
 		syscall(SYS_capset, &head, none); /* if a sandbox refuses it, they end with the execve */
 }
 
+/* By the kernel's own call, without fusermount3: the process may mount in its namespace. */
 int run_namespaces_mount(void)
 {
 	char words[160];
@@ -130,6 +141,7 @@ int run_namespaces_mount(void)
 		say("this machine does not allow FUSE: /dev/fuse: %s", strerror(errno));
 		return -1;
 	}
+	/* allow_other: processes of the program may have other users. The server checks no owner. */
 	snprintf(words, sizeof words, "fd=%d,rootmode=40000,user_id=%u,group_id=%u,allow_other", fd, geteuid(), getegid());
 	if (mount(cgroup_source, cgroup_mount, "fuse.cgroup2", MS_NOSUID | MS_NODEV | MS_NOEXEC, words)) {
 		say("this machine does not allow FUSE: no mount on %s: %s", cgroup_mount, strerror(errno));
@@ -139,6 +151,7 @@ int run_namespaces_mount(void)
 	return fd;
 }
 
+/* It is attached nowhere: a mount of the program over the original does not cover it. */
 int run_namespaces_copy_mount(void)
 {
 	return (int)syscall(SYS_open_tree, AT_FDCWD, cgroup_mount, OPEN_TREE_CLONE | OPEN_TREE_CLOEXEC);

@@ -16,7 +16,8 @@ bool run_namespaces_enter_below(const struct wishes *wishes);
 /* Before the execve: who isn't the superuser finds and executes a program by the modes of files alone, as without a run. The
    namespace has given all capabilities to this process. */
 void run_namespaces_give_up_rights(void);
-/* Mounts, and returns the connection; -1 after an error message. */
+/* Mounts, and returns the connection; -1 after an error message. The connection goes to the
+   server, and ends the mount when it is closed. */
 int run_namespaces_mount(void);
 /* A copy of the mount, in which nobody can mount anything: a descriptor of its root, or -1 with errno. */
 int run_namespaces_copy_mount(void);

@@ -9,6 +9,7 @@
 
 enum { NAMES_MAX = 128, VALUES_MAX = 128 * 1024 }; /* the kernel's bounds, for one group or file */
 
+/* All attributes of a group and its files are in one list, which owns them. */
 struct attribute {
 	struct attribute *next;
 	const struct file *file; /* NULL: of the group itself */
@@ -17,6 +18,7 @@ struct attribute {
 };
 
 /* The group or file with this number. 0 or -errno. */
+/* The control directory has no attributes: EOPNOTSUPP. */
 static int find_node(uint64_t number, struct node *node)
 {
 	int fault = nodes_find(number, node);
@@ -31,6 +33,7 @@ static int find_for(fuse_req_t req, uint64_t number, int mask, struct node *node
 }
 
 /* The place of a file's name among these attributes, or the end. */
+/* The place is a pointer to a pointer, so the caller can put in and take out there. */
 static struct attribute **find(struct attribute **at, const struct file *file, const char *name)
 {
 	while (*at && ((*at)->file != file || strcmp((*at)->name, name)))
@@ -47,6 +50,7 @@ static void drop(struct attribute **at)
 	free(a);
 }
 
+/* An attribute that is replaced doesn't count, and the new one does. */
 static bool has_room(const struct attribute *a, const struct file *file, const struct attribute *replaced, size_t size)
 {
 	size_t names = 1;
@@ -58,6 +62,7 @@ static bool has_room(const struct attribute *a, const struct file *file, const s
 	return names <= NAMES_MAX && size <= VALUES_MAX;
 }
 
+/* All or nothing: what was made is freed at each return that does not take it. */
 static struct attribute *make(const char *name, const char *value, size_t size)
 {
 	cleanup_free struct attribute *a = calloc(1, sizeof *a);
@@ -100,11 +105,13 @@ static int set_in(struct group_state *r, const struct file *file, const char *na
 #pragma GCC diagnostic pop
 #endif
 
+/* Other namespaces (trusted, security) fail with EOPNOTSUPP, as on a file system without them. */
 static bool is_users(const char *name)
 {
 	return strncmp(name, "user.", 5) == 0;
 }
 
+/* The kernel has checked the sizes of name and value. */
 void attributes_set(fuse_req_t req, fuse_ino_t number, const char *name, const char *value, size_t size, int flags)
 {
 	struct node node;
@@ -119,6 +126,7 @@ void attributes_set(fuse_req_t req, fuse_ino_t number, const char *name, const c
 /* A request for 0 bytes asks for the size. */
 static void reply(fuse_req_t req, int fault, const char *value, size_t size, size_t room)
 {
+	/* ERANGE, so that the caller asks again with more room. */
 	if (fault == 0 && room && room < size)
 		fault = -ERANGE;
 	if (fault)
@@ -129,9 +137,11 @@ static void reply(fuse_req_t req, int fault, const char *value, size_t size, siz
 		fuse_reply_xattr(req, size);
 }
 
+/* The value is the list's own: the caller copies it before it gives the lock back. */
 static int get(fuse_req_t req, uint64_t number, const char *name, const char **value, size_t *size)
 {
 	struct node node;
+	/* The helper asks a group for its path by this name. No permission is needed for it. */
 	bool is_path = look.marked && strcmp(name, group_attribute) == 0;
 	int fault = is_path || is_users(name) ? find_for(req, number, is_path ? 0 : R_OK, &node) : -EOPNOTSUPP;
 	if (fault)
@@ -149,12 +159,14 @@ static int get(fuse_req_t req, uint64_t number, const char *name, const char **v
 	return 0;
 }
 
+/* The kernel asks twice as a rule: for the size, and then for the value. */
 void attributes_get(fuse_req_t req, fuse_ino_t number, const char *name, size_t room)
 {
 	const char *value = NULL;
 	size_t size = 0;
 	engine_lock();
 	int fault = get(req, number, name, &value, &size);
+	/* With the lock: afterwards the attribute may be replaced. */
 	cleanup_free char *copy = fault == 0 && room >= size ? malloc(size + 1) : NULL;
 	if (copy)
 		memcpy(copy, value, size);
@@ -164,10 +176,12 @@ void attributes_get(fuse_req_t req, fuse_ino_t number, const char *name, size_t 
 	reply(req, fault, copy, size, room);
 }
 
+/* Names end in a zero byte each. With `room` 0 only the size is counted. */
 void attributes_list(fuse_req_t req, fuse_ino_t number, size_t room)
 {
 	struct node node;
 	size_t size = 0;
+	/* Before the lock. `room` is at most 64 KiB, the kernel's bound. */
 	cleanup_free char *names = malloc(room + 1);
 	engine_lock();
 	int fault = names ? find_node(number, &node) : -ENOMEM;
@@ -183,6 +197,7 @@ void attributes_list(fuse_req_t req, fuse_ino_t number, size_t room)
 	reply(req, fault, names, size, room);
 }
 
+/* ENODATA: there is no such attribute. */
 void attributes_remove(fuse_req_t req, fuse_ino_t number, const char *name)
 {
 	struct node node;

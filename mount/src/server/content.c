@@ -21,6 +21,7 @@
 #include <string.h>
 
 /* As in the kernel, the superuser can open a file against its mode, and then gets an error from the read or write. */
+/* 0 or -errno. O_DIRECT fails with EINVAL, as for a file of the kernel. */
 static int may_open(const struct node *node, int flags, uid_t uid)
 {
 	int way = flags & O_ACCMODE;
@@ -35,6 +36,7 @@ static int may_access(const struct node *node, int mask, uid_t uid)
 	return !nodes_is_directory(node) && mask & X_OK ? -EACCES : nodes_may(node, mask, uid);
 }
 
+/* The kernel asks here instead of deciding by the mode that a stat shows. */
 void content_access(fuse_req_t req, fuse_ino_t number, int mask)
 {
 	struct node node;
@@ -46,12 +48,14 @@ void content_access(fuse_req_t req, fuse_ino_t number, int mask)
 	fuse_reply_err(req, -fault);
 }
 
+/* Tables have the highest numbers. */
 static bool is_table(long control)
 {
 	return control >= CONTROL_TABLE;
 }
 
 /* A file of a removed group can be found by a descriptor of it. */
+/* The table is opened first. Without memory for the file it is closed again. */
 static int open_node(const struct node *node, int flags, uid_t uid, struct open_file **out)
 {
 	struct group_state *of = node->group ? node->group : group_state_find("/");
@@ -72,6 +76,7 @@ void content_open(fuse_req_t req, fuse_ino_t number, struct fuse_file_info *fi)
 {
 	struct node node;
 	struct open_file *o = NULL;
+	/* The kernel caches no page of the file: each read and each write comes here. */
 	fi->direct_io = 1;
 	engine_lock();
 	int fault = nodes_find(number, &node);
@@ -82,17 +87,20 @@ void content_open(fuse_req_t req, fuse_ino_t number, struct fuse_file_info *fi)
 	open_files_reply(req, fault, o, fi);
 }
 
+/* For control_read, which hands it the text. */
 static int keep(void *opened, const char *text, size_t size)
 {
 	return open_files_keep(opened, text, size);
 }
 
 /* Lists of processes are in the numbers of their reader's PID namespace. */
+/* Only a run translates them: a mount shows its numbers as they are. */
 static bool is_list(const struct open_file *o)
 {
 	return look.marked && o->file && (o->file->value == A_PID || strcmp(o->file->name, "cgroup.threads") == 0);
 }
 
+/* The engine has the numbers of the supervisor's namespace. */
 static int keep_list(struct open_file *o, const char *text, size_t size, int space)
 {
 	cleanup_free char *list = malloc(NAMESPACES_MORE * size + 1);
@@ -100,14 +108,17 @@ static int keep_list(struct open_file *o, const char *text, size_t size, int spa
 }
 
 /* `space`: the reader's PID namespace, if it is another */
+/* The whole text is kept with the open file: later reads continue it. */
 static int begin_read(struct open_file *o, int space)
 {
 	size_t size;
 	const char *text;
 	if (!o->file)
 		return control_read(o->control, keep, o);
+	/* The superuser could open it against its mode. */
 	if (!o->file->readable)
 		return -EINVAL;
+	/* The group was removed, or has lost the controller. */
 	if (open_files_is_gone(o) || !controllers_have(o->of->path, o->file))
 		return -ENODEV;
 	int fault = host_processes_sweep();
@@ -118,6 +129,7 @@ static int begin_read(struct open_file *o, int space)
 	return fault;
 }
 
+/* `size` becomes what is there from `at` on. */
 void content_read(fuse_req_t req, fuse_ino_t number, size_t size, off_t at, struct fuse_file_info *fi)
 {
 	struct open_file *o = open_files_of(fi);
@@ -129,6 +141,7 @@ void content_read(fuse_req_t req, fuse_ino_t number, size_t size, off_t at, stru
 	int fault = open_files_goes_on(o, at) ? 0 : begin_read(o, space);
 	size = open_files_has(o, size, at);
 	/* a copy: once the lock is free, another read of this open file may replace its text */
+	/* Most texts fit into `few`, and take no memory. */
 	cleanup_free char *many = size > sizeof few ? malloc(size) : NULL;
 	char *bytes = many ? many : few;
 	if (fault == 0 && size > sizeof few && !many)
@@ -142,12 +155,14 @@ void content_read(fuse_req_t req, fuse_ino_t number, size_t size, off_t at, stru
 		fuse_reply_buf(req, bytes, size);
 }
 
+/* `said` is the number in the engine's own form. */
 static int move_to(const struct open_file *o, const char *said)
 {
 	char from[PATH_MAX_SAID];
 	long pid = strtol(said, NULL, 10);
 	int fault = engine_where(pid, from, sizeof from);
 	bool was_there = fault == 0;
+	/* A process that is not in the hierarchy is refused by the engine, which says why. */
 	if (fault == -ENOMEM || (was_there && (fault = controllers_may_enter(o->of->path))))
 		return fault;
 	if (tasks_next((pid_t)pid))
@@ -156,12 +171,14 @@ static int move_to(const struct open_file *o, const char *said)
 		fault = engine_line("write %s %s %s", o->of->path, o->file->name, said);
 	if (fault == 0 && was_there) {
 		freezer_moved((pid_t)pid, o->of->path);
+		/* Both groups, and all above them, may have become populated or empty. */
 		watch_above(from);
 		watch_above(o->of->path);
 	}
 	return fault;
 }
 
+/* `said` may be changed: it has room for any number. */
 static int move(const struct open_file *o, char said[SAID_MAX])
 {
 	bool is_new;
@@ -211,9 +228,12 @@ static int write_file(struct open_file *o, const char *data, size_t size, char w
 		return -ENODEV;
 	if (o->file->value == WRITES)
 		return o->file->write(o->of->path, o->file, data, size);
+	/* The engine's parser reads decimal numbers. What the kernel accepts besides is put into that
+	   form first. */
 	int fault = written_value(o->file->value, data, size, said);
 	if (fault)
 		return fault;
+	/* find_meant has put the number into `who`, before the lock. */
 	if (o->file->value == A_PID)
 		return who[0] ? move(o, who) : -ESRCH;
 	if (o->file->value == A_ONE)
@@ -239,12 +259,14 @@ static void find_meant(pid_t writer, char who[SAID_MAX])
 		snprintf(who, SAID_MAX, "%d", host_processes_process_of((pid_t)strtol(who, NULL, 10)));
 }
 
+/* The parsers refuse what is longer than a page (E2BIG). */
 void content_write(fuse_req_t req, fuse_ino_t number, const char *data, size_t size, off_t at,
 	struct fuse_file_info *fi)
 {
 	struct open_file *o = open_files_of(fi);
 	char who[SAID_MAX] = "";
 	(void)number, (void)at;
+	/* Without the lock: an open file's `file` never changes. */
 	if (o->file && o->file->value == A_PID && written_value(A_PID, data, size, who) == 0)
 		find_meant(fuse_req_ctx(req)->pid, who);
 	engine_lock();
@@ -256,11 +278,13 @@ void content_write(fuse_req_t req, fuse_ino_t number, const char *data, size_t s
 		fuse_reply_write(req, size);
 }
 
+/* The kernel sends a handle only if the caller is going to wait. */
 void content_poll(fuse_req_t req, fuse_ino_t number, struct fuse_file_info *fi, struct fuse_pollhandle *waiter)
 {
 	struct open_file *o = open_files_of(fi);
 	(void)number;
 	engine_lock();
+	/* First: the text that later ones are compared with is not older than the poll. */
 	int fault = o->file && o->file->notified && !open_files_is_gone(o) ? watch_seen(o->of->path, o->file) : 0;
 	unsigned told = open_files_poll(o, waiter);
 	if (is_table(o->control))
@@ -272,6 +296,7 @@ void content_poll(fuse_req_t req, fuse_ino_t number, struct fuse_file_info *fi, 
 		fuse_reply_poll(req, told);
 }
 
+/* The last descriptor was closed: no other request for this open file is under way. */
 void content_release(fuse_req_t req, fuse_ino_t number, struct fuse_file_info *fi)
 {
 	(void)number;

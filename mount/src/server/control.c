@@ -16,11 +16,13 @@
 
 const char control_directory[] = ".makhloeum";
 
+/* Their numbers are also their places in `files`. */
 enum { UNDO, FORGET, DEPTH, NEWEST, TRACE, FORK, EXIT };
 
 static const struct {
 	const char *name;
 	mode_t mode;
+	/* Without a history the file does not exist. */
 	bool of_history;
 } files[CONTROL_FILES] = {
 	[UNDO] = { "undo", 0200, true },
@@ -39,6 +41,7 @@ struct where {
 	unsigned space;
 };
 
+/* Only digits: a sign or a blank would be other spellings of one number. */
 static bool find_where(const char *path, struct where *out)
 {
 	size_t n = sizeof control_directory - 1;
@@ -57,7 +60,8 @@ static bool find_where(const char *path, struct where *out)
 	return true;
 }
 
-/* The kernel knows a file by one number, and here by nothing else. */
+/* The kernel knows a file by one number, and here by nothing else. The pid and the space fit:
+   CONTROL_TABLE is above all of these numbers. */
 static long number_of_where(struct where w)
 {
 	return CONTROL_WHERE + (long)w.space * PIDS + w.process;
@@ -70,6 +74,7 @@ static struct where where_of_number(long file)
 }
 
 /* The number of a mount table; -1. */
+/* 18 digits: such a number fits into a `long`. */
 static long table_of(const char *path)
 {
 	long number;
@@ -87,17 +92,20 @@ static bool is_hidden(const char *path)
 	return look.marked && strcmp(path, "/.makhloeum.d") == 0;
 }
 
+/* Such a path is never a group's: a mkdir there fails, and a look-up asks control_find. */
 bool control_has(const char *path)
 {
 	struct where unused;
 	size_t n = sizeof control_directory - 1;
 	if (find_where(path, &unused) || table_of(path) >= 0 || is_context(path) || is_hidden(path))
 		return true;
+	/* A run without --control has no such directory: its program must not write exits. */
 	if (look.marked && !look.history)
 		return false;
 	return path[0] == '/' && strncmp(path + 1, control_directory, n) == 0 && (path[n + 1] == 0 || path[n + 1] == '/');
 }
 
+/* The path begins with the directory's name, or is that of a hidden file. */
 long control_find(const char *path)
 {
 	const char *name = path + sizeof control_directory;
@@ -143,10 +151,13 @@ mode_t control_mode(long file)
 }
 
 /* A process that no supervisor knows is in the root, like all others of the machine. */
+/* The two texts differ: that of a process is as in /proc, and that of a namespace is its root in
+   the hierarchy. */
 static int read_where(struct where w, int (*keep)(void *, const char *, size_t), void *to)
 {
 	char group[PATH_MAX_SAID] = "/", seen[PATH_MAX_SAID], text[PATH_MAX_SAID + 8];
 	const char *root = cgroup_namespaces_root(w.space);
+	/* -ESRCH leaves "/". */
 	int fault = w.process ? engine_where(w.process, group, sizeof group) : 0;
 	if (fault == -ENOMEM)
 		return fault;
@@ -164,6 +175,7 @@ static int read_history(size_t from, int (*keep)(void *, const char *, size_t), 
 	return fault ? fault : keep(to, text, size);
 }
 
+/* 0 or -errno. EINVAL: the file can only be written. */
 int control_read(long file, int (*keep)(void *, const char *, size_t), void *to)
 {
 	char text[32];
@@ -173,6 +185,7 @@ int control_read(long file, int (*keep)(void *, const char *, size_t), void *to)
 		return mount_tables_read(file - CONTROL_TABLE, keep, to);
 	if (file >= CONTROL_WHERE)
 		return read_where(where_of_number(file), keep, to);
+	/* As the kernel's descriptor of fsopen, from which messages are read. */
 	if (file == CONTROL_CONTEXT) /* there is no message about its mount */
 		return -ENODATA;
 	depth = engine_depth();
@@ -203,6 +216,7 @@ static void split(char *command, const char *words[WORDS])
 }
 
 /* Notifies those whom an undo concerns: `command` is the undone command. */
+/* An undo that changes no group and no process tells nobody. */
 static void tell_undone(const char *command, size_t size)
 {
 	char text[2 * PATH_MAX_SAID];
@@ -210,6 +224,7 @@ static void tell_undone(const char *command, size_t size)
 	snprintf(text, sizeof text, "%.*s", (int)size, command);
 	split(text, words);
 	const char *verb = words[0], *group = words[1], *file = words[2], *value = words[3], *process = words[1];
+	/* The group is gone, although nobody removed it. */
 	if (strcmp(verb, "mkdir") == 0)
 		group_state_lose(group);
 	else if (strcmp(verb, "write") == 0 && strcmp(file, "cgroup.kill") == 0)
@@ -222,6 +237,8 @@ static void tell_undone(const char *command, size_t size)
 }
 
 /* Undoes the newest operation. If a line of it fails, what is left of it is the newest from now on. */
+/* One operation of the program may be several commands. The engine undoes them one by one, from
+   the newest. */
 static int undo_newest(void)
 {
 	int fault = 0;
@@ -231,7 +248,9 @@ static int undo_newest(void)
 		if (fault == 0)
 			tell_undone(command, size);
 	}
+	/* Also after a fault: the steps must fit the commands that are left. */
 	undo_steps_cut(engine_depth());
+	/* An undo may have moved processes into or out of frozen groups. */
 	freezer_undone();
 	return fault;
 }
@@ -247,9 +266,11 @@ static int undo(unsigned long count)
 	return fault;
 }
 
+/* Such a process is a number only. */
 static int control_fork(unsigned long parent, unsigned long child)
 {
 	int fault = engine_line("fork %lu %lu", parent, child);
+	/* A fork that was refused is counted, in a file that may be watched. */
 	if (fault == 0 || fault == -EAGAIN)
 		watch_process((pid_t)parent);
 	return fault;
@@ -261,6 +282,7 @@ static int control_exit(unsigned long pid)
 	int fault = engine_where((long)pid, group, sizeof group);
 	if (fault == -ENOMEM)
 		return fault;
+	/* Its group is read before the exit, after which it has none. */
 	bool was_there = fault == 0;
 	fault = engine_line("exit %lu", pid);
 	if (fault == 0 && was_there)
@@ -268,11 +290,13 @@ static int control_exit(unsigned long pid)
 	return fault;
 }
 
+/* EINVAL for a file that can only be read, and for numbers that it does not take. */
 int control_write(long file, const char *data, size_t size)
 {
 	unsigned long said[2];
 	WANTS_LOCK();
 	int count = control_numbers_read(data, size, said, 2);
+	/* No number means the newest operation. */
 	if (file == UNDO && count >= 0 && count <= 1)
 		return undo(count ? said[0] : 1);
 	if (file == FORGET && count == 0)

@@ -3,6 +3,8 @@
 #include <limits.h>
 #include <number_parser.h>
 
+/* How many numbers there are; -EINVAL for more than `most`, and for anything but digits and
+   blanks. */
 int control_numbers_read(const char *data, size_t size, unsigned long out[], int most)
 {
 	int count = 0;
@@ -13,6 +15,8 @@ int control_numbers_read(const char *data, size_t size, unsigned long out[], int
 		}
 		if (count == most)
 			return -EINVAL;
+		/* A number beyond 64 bits is still a number: it becomes the greatest one, which is beyond
+		   all that it can mean. */
 		unsigned long n = 0;
 		bool too_large = false;
 		for (; i < size && data[i] && !is_space(data[i]); i++) {

@@ -11,7 +11,8 @@
 #include <stdlib.h>
 #include <string.h>
 
-/* The entries that are being collected, in the kernel's form. */
+/* The entries that are being collected, in the kernel's form. The bytes belong to whoever
+   collects, who frees them also after a fault. */
 struct entries {
 	fuse_req_t req;
 	char *bytes;
@@ -19,9 +20,11 @@ struct entries {
 };
 
 /* The offset of an entry is where the next one begins. */
+/* -ENOMEM leaves what was collected so far. */
 static int put(struct entries *e, const char *name, const struct node *node)
 {
 	const struct stat st = { .st_ino = nodes_number(node), .st_mode = nodes_mode(node) };
+	/* Without room it returns how much the entry takes. */
 	size_t more = fuse_add_direntry(e->req, NULL, 0, name, NULL, 0);
 	if (e->size + more > e->room) {
 		size_t room = 2 * (e->room + more);
@@ -36,12 +39,14 @@ static int put(struct entries *e, const char *name, const struct node *node)
 	return 0;
 }
 
+/* The number of a group is given by its state, so a listing makes one for each group. */
 static int put_group(struct entries *e, const char *name, const char *path)
 {
 	const struct node node = { .group = group_state_make(path) };
 	return node.group ? put(e, name, &node) : -ENOMEM;
 }
 
+/* The names are the engine's, and stay until its next call. No call in the loop asks the engine. */
 static int put_groups_below(struct entries *e, const struct node *directory)
 {
 	char path[PATH_MAX_SAID];
@@ -56,6 +61,7 @@ static int put_groups_below(struct entries *e, const struct node *directory)
 	return fault;
 }
 
+/* Those that the group has now. A hidden file is in no listing. */
 static int put_files(struct entries *e, const struct node *directory)
 {
 	const char *group = directory->group->path;
@@ -69,6 +75,7 @@ static int put_files(struct entries *e, const struct node *directory)
 	return fault;
 }
 
+/* Its files do not depend on a group. */
 static int put_control(struct entries *e)
 {
 	int fault = 0;
@@ -78,6 +85,7 @@ static int put_control(struct entries *e)
 	return fault;
 }
 
+/* The order: the two dots, then files, then groups. */
 static int collect(struct entries *e, const struct node *directory)
 {
 	struct node above;
@@ -91,7 +99,9 @@ static int collect(struct entries *e, const struct node *directory)
 	return fault || !directory->group ? fault : put_groups_below(e, directory);
 }
 
-/* A listing is made when it is read from its start. What comes after that is the rest of it, whatever has changed. */
+/* A listing is made when it is read from its start. What comes after that is the rest of it,
+   whatever has changed. nodes_find says whether the directory is there; a removed one, still open,
+   lists nothing (ENOENT), as in the kernel. */
 static int begin(fuse_req_t req, uint64_t number, struct open_file *o)
 {
 	struct node directory;
@@ -105,7 +115,8 @@ static int begin(fuse_req_t req, uint64_t number, struct open_file *o)
 	return fault ? fault : open_files_keep(o, bytes, e.size);
 }
 
-/* The first entry that begins at a place or after it. The place may be any, since a program can seek. */
+/* The first entry that begins at a place or after it. The place may be any, since a program can
+   seek. The lengths are in the entries, so the look begins at the first one. */
 static size_t entry_from(const struct open_file *o, size_t at)
 {
 	size_t n = 0;
@@ -114,7 +125,8 @@ static size_t entry_from(const struct open_file *o, size_t at)
 	return n;
 }
 
-/* How many bytes whole entries have from there on, if that is all the room. */
+/* How many bytes whole entries have from there on, if that is all the room. The kernel takes no
+   part of an entry. */
 static size_t whole_entries(const struct open_file *o, size_t from, size_t room)
 {
 	size_t n = from;
@@ -127,6 +139,7 @@ static size_t whole_entries(const struct open_file *o, size_t from, size_t room)
 	return n - from;
 }
 
+/* A removed group can still be opened by a descriptor of it: such a directory has no group. */
 void directories_open(fuse_req_t req, fuse_ino_t number, struct fuse_file_info *fi)
 {
 	struct node node;
@@ -141,6 +154,7 @@ void directories_open(fuse_req_t req, fuse_ino_t number, struct fuse_file_info *
 	open_files_reply(req, fault, o, fi);
 }
 
+/* A program that sets the offset back to 0 gets a new listing. */
 void directories_read(fuse_req_t req, fuse_ino_t number, size_t room, off_t at, struct fuse_file_info *fi)
 {
 	struct open_file *o = open_files_of(fi);
@@ -149,6 +163,7 @@ void directories_read(fuse_req_t req, fuse_ino_t number, size_t room, off_t at, 
 	int fault = at == 0 ? begin(req, number, o) : 0;
 	size_t from = entry_from(o, (size_t)at);
 	size_t size = whole_entries(o, from, room);
+	/* A copy, as in content_read. */
 	if (fault == 0 && !(bytes = malloc(size + 1)))
 		fault = -ENOMEM;
 	if (fault == 0 && size)
@@ -160,6 +175,7 @@ void directories_read(fuse_req_t req, fuse_ino_t number, size_t room, off_t at, 
 		fuse_reply_buf(req, bytes, size);
 }
 
+/* As of a file: both have the same structure. */
 void directories_release(fuse_req_t req, fuse_ino_t number, struct fuse_file_info *fi)
 {
 	content_release(req, number, fi);

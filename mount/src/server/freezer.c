@@ -18,6 +18,7 @@ enum { WANTED = 1, STOPPED = 2, ORDERED = 4 };
 
 static size_t freezing; /* groups in which 1 was written */
 static size_t wanted; /* processes that have to stop */
+/* An eventfd; -1: a mount without a run, where no process stops. */
 static int supervisor = -1;
 
 /* A process has at most one order. So the list of all needs no memory, and an order is never lost for lack of it. */
@@ -25,6 +26,7 @@ static pid_t first_order, last_order;
 
 static bool overdue; /* an undo could not be followed */
 
+/* Before the server is forked: both processes have the descriptor. */
 bool freezer_begin(int *wake)
 {
 	supervisor = eventfd(0, EFD_CLOEXEC | EFD_NONBLOCK);
@@ -34,13 +36,14 @@ bool freezer_begin(int *wake)
 
 /* ---------------------------------------------------------------- groups */
 
+/* Most mounts freeze nothing: then no group is looked up. */
 static bool freezes_itself(const char *group)
 {
 	const struct group_state *r = freezing ? group_state_find(group) : NULL;
 	return r && r->freezes;
 }
 
-/* Whether it or a group above it has to be frozen. */
+/* Whether it or a group above it has to be frozen. The root has no file cgroup.freeze. */
 static bool is_to_freeze(const char *group)
 {
 	char at[PATH_MAX_SAID];
@@ -51,6 +54,8 @@ static bool is_to_freeze(const char *group)
 	return false;
 }
 
+/* For members_each: a number other than 0 ends the walk, at the first process that has not
+   stopped. */
 static int runs(pid_t pid, const char *group)
 {
 	(void)group;
@@ -62,10 +67,12 @@ static int is_frozen(const char *group)
 {
 	if (!is_to_freeze(group))
 		return 0;
+	/* An empty group is frozen at once, as in the kernel. */
 	int running = supervisor < 0 ? 0 : members_each(group, false, runs);
 	return running < 0 ? running : !running;
 }
 
+/* What was written to this group, whatever the groups above say. */
 int freezer_show(const char *group, const struct file *file, char out[TEXT_ROOM])
 {
 	(void)file;
@@ -75,6 +82,8 @@ int freezer_show(const char *group, const struct file *file, char out[TEXT_ROOM]
 
 int freezer_text(const char *group, const struct file *file, const char **text, size_t size)
 {
+	/* With the lock. The engine's text always says `frozen 0`, which is as long as what replaces
+	   it. */
 	static char own[64];
 	if (!freezing || strcmp(file->name, "cgroup.events") != 0 || size < 2 || size >= sizeof own)
 		return 0;
@@ -90,6 +99,8 @@ int freezer_text(const char *group, const struct file *file, const char **text, 
 
 /* ---------------------------------------------------------------- orders */
 
+/* The order says only whom it is about. What it is, freezer_order reads at the end: so it is
+   always the newest. */
 static void add_order(pid_t pid)
 {
 	struct process *p = process_at(pid);
@@ -113,6 +124,7 @@ static void set_wanted(pid_t pid, bool stops)
 		p->freezing &= (unsigned char)~(WANTED | STOPPED);
 }
 
+/* An order only where something changes. */
 static void want(pid_t pid, bool to_freeze)
 {
 	if (!is_pid(pid) || to_freeze == !!(process_at(pid)->freezing & WANTED))
@@ -121,6 +133,7 @@ static void want(pid_t pid, bool to_freeze)
 	set_wanted(pid, to_freeze);
 }
 
+/* The supervisor then asks for the orders by its socket (freezer_order). */
 static void wake(void)
 {
 	uint64_t one = 1;
@@ -129,6 +142,7 @@ static void wake(void)
 	}
 }
 
+/* The oldest order first. The supervisor asks until there is none. */
 bool freezer_order(pid_t *pid, bool *stop)
 {
 	WANTS_LOCK();
@@ -159,9 +173,11 @@ static int note(pid_t pid, const char *group)
 	return 0;
 }
 
-/* Orders all processes at and below a group, or none: 0 or -errno. */
+/* Orders all processes at and below a group, or none: 0 or -errno. First all that are meant are
+   noted, which may find no memory, and then they are ordered, which cannot fail. */
 static int order_all(const char *top)
 {
+	/* If no group freezes and no process was to stop, nothing can change. */
 	if (supervisor < 0 || (!freezing && !wanted))
 		return 0;
 	changes_count = 0;
@@ -180,6 +196,7 @@ void freezer_undone(void)
 	overdue = order_all("/") != 0;
 }
 
+/* Called before an operation (run_processes_sweep). */
 void freezer_catch_up(void)
 {
 	if (overdue)
@@ -204,6 +221,7 @@ static void set(struct group_state *r, bool freezes)
 	r->freezes = freezes;
 }
 
+/* 0 or -errno. The write returns before the processes have stopped: the supervisor stops them. */
 int freezer_write(const char *group, const struct file *file, const char *data, size_t size)
 {
 	char said[SAID_MAX];
@@ -213,6 +231,7 @@ int freezer_write(const char *group, const struct file *file, const char *data, 
 	if (!r)
 		return fault ? fault : -ENOMEM;
 	bool freezes = said[0] == '1', differs = r->freezes != freezes;
+	/* First, since order_all asks for it. If that fails, it is set back. */
 	set(r, freezes);
 	if (differs && (fault = order_all(group)))
 		set(r, !freezes);
@@ -233,6 +252,8 @@ bool freezer_born(pid_t pid, const char *group)
 	if (!is_pid(pid))
 		return false;
 	bool stops = is_to_freeze(group);
+	/* It takes away what an earlier process of this number had. No order follows: the supervisor
+	   gets the answer with that of its question. */
 	set_wanted(pid, false);
 	set_wanted(pid, stops);
 	return stops;
@@ -249,8 +270,10 @@ void freezer_told(pid_t pid, bool stopped)
 {
 	WANTS_LOCK();
 	struct process *p = is_pid(pid) ? process_at(pid) : NULL;
+	/* A late message: meanwhile the process was thawed. */
 	if (!p || (stopped && !(p->freezing & WANTED)))
 		return;
 	p->freezing = (unsigned char)(stopped ? p->freezing | STOPPED : p->freezing & ~STOPPED);
+	/* The line `frozen` of its group, or of one above, may have changed. */
 	watch_process(pid);
 }

@@ -14,6 +14,7 @@ int freezer_show(const char *group, const struct file *file, char out[TEXT_ROOM]
 int freezer_write(const char *group, const struct file *file, const char *data, size_t size);
 /* The text of a file, with the current line `frozen`. 0, or -errno if that can't be known. */
 int freezer_text(const char *group, const struct file *file, const char **text, size_t size);
+/* The group is being removed: it has no processes. */
 void freezer_forget(struct group_state *r);
 
 /* A process is now in this group. */

@@ -10,8 +10,10 @@
 #include <stdlib.h>
 #include <string.h>
 
+/* A group that was removed leaves `paths` at once, and `numbers` when the kernel has forgotten it. */
 static void *paths, *numbers; /* trees: of the groups that exist, and of those that are gone too */
 
+/* The trees compare what they are searched for with what they have: only this field of it is set. */
 static int by_path(const void *a, const void *b)
 {
 	return strcmp(((const struct group_state *)a)->path, ((const struct group_state *)b)->path);
@@ -23,6 +25,7 @@ static int by_number(const void *a, const void *b)
 	return m < n ? -1 : m > n;
 }
 
+/* In time that grows with the logarithm of the groups. */
 struct group_state *group_state_find(const char *group)
 {
 	WANTS_LOCK();
@@ -31,6 +34,7 @@ struct group_state *group_state_find(const char *group)
 	return at ? *at : NULL;
 }
 
+/* By this one, requests of the kernel find a group that was removed. */
 struct group_state *group_state_numbered(uint64_t number)
 {
 	WANTS_LOCK();
@@ -39,7 +43,7 @@ struct group_state *group_state_numbered(uint64_t number)
 	return at ? *at : NULL;
 }
 
-/* A number is used once. */
+/* A number is used once. So a request with an old number never reaches a newer group. */
 static uint64_t new_number(const char *group)
 {
 	static uint64_t last = NUMBER_ROOT;
@@ -52,6 +56,7 @@ struct group_state *group_state_make(const char *group)
 	if (r)
 		return r;
 	size_t size = strlen(group) + 1;
+	/* In the trees and the lists there are pointers to it, so it never moves. */
 	r = calloc(1, sizeof *r + size);
 	if (!r)
 		return NULL;
@@ -59,6 +64,8 @@ struct group_state *group_state_make(const char *group)
 	r->path = r->bytes;
 	r->number = new_number(group);
 	owner_begin(r, NULL);
+	/* Each takes memory. If the second has none, the first is taken back: no tree has a group that
+	   the other lacks. */
 	if (tsearch(r, &paths, by_path)) {
 		if (tsearch(r, &numbers, by_number))
 			return r;
@@ -77,21 +84,25 @@ static void visit(const void *node, VISIT when, void *which)
 {
 	const struct visit *v = which;
 	const struct group_state *r = *(struct group_state *const *)node;
+	/* Each node comes once in one of these two ways, in the order of the paths. */
 	if ((when == postorder || when == leaf) && is_at_or_below(r->path, v->top))
 		v->call(r);
 }
 
+/* twalk_r hands the visit its own words, so there is no state beside the tree. */
 void group_state_each(const char *top, void (*call)(const struct group_state *r))
 {
 	WANTS_LOCK();
 	twalk_r(paths, visit, &(struct visit){ top, call });
 }
 
+/* NULL is allowed: then there is nothing to do. */
 void group_state_tidy(struct group_state *r)
 {
 	WANTS_LOCK();
 	if (!r || !r->gone || r->known)
 		return;
+	/* Nothing else is left: group_state_lose has dropped the rest. */
 	owner_forget(r);
 	attributes_forget(r);
 	tdelete(r, &numbers, by_number);
@@ -105,6 +116,7 @@ void group_state_lose(const char *group)
 	struct group_state *r = group_state_find(group);
 	if (!r)
 		return;
+	/* First, so that nothing that follows wakes or finds an open file of it. */
 	open_files_lose(r);
 	watch_forget(r);
 	values_forget(r, ~0U);

@@ -24,12 +24,15 @@ struct inode_fields {
 };
 
 struct group_state {
+	/* Points to `bytes`. It never changes: a group can't be renamed. */
 	const char *path;
 	uint64_t number; /* of the group's inode; those of its files follow (nodes.h) */
 	uint64_t known; /* look-ups of the group and its files that the kernel has not forgotten */
 	bool gone; /* it was removed: a group that has its path now is another one */
 	struct inode_fields itself;
 	struct inode_fields at_first; /* its files have the owner and the times that it had when it was made */
+	/* The lists below belong to the files that have their types: open_files.c, watch.c, owner.c,
+	   attributes.c, values.c. */
 	struct open_file *open_files;
 	struct watched *watched;
 	struct owned *owned;

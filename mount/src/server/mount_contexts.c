@@ -3,6 +3,7 @@
 #include <errno.h>
 #include <string.h>
 
+/* As in the kernel: EBUSY after a failure or once it is created, EINVAL for a second source. */
 static int set(struct mount_context *c, bool is_source)
 {
 	if (c->phase != PARAMETERS && c->phase != MOUNTED)
@@ -19,6 +20,7 @@ static int create(struct mount_context *c, bool alone)
 	if (c->phase != PARAMETERS)
 		return -EBUSY;
 	c->phase = alone ? FAILED : CREATED;
+	/* After a failure the context takes nothing more. */
 	return alone ? -EBUSY : 0;
 }
 
@@ -31,6 +33,7 @@ static int reconfigure(struct mount_context *c)
 	return -EPERM;
 }
 
+/* The context is as new afterwards, but knows that it has made a mount. */
 static int begin_use(struct mount_context *c)
 {
 	if (c->phase != CREATED)
@@ -39,9 +42,11 @@ static int begin_use(struct mount_context *c)
 	return 0;
 }
 
+/* EINVAL for all that is no message: a program may write to the descriptor. */
 int mount_contexts_step(struct mount_context *c, const char *data, size_t size)
 {
 	struct mount_step_message said;
+	/* A write that the helper did not make: a program can write to the descriptor too. */
 	if (size != sizeof said || memcmp(data, MOUNT_STEP_MARK, sizeof said.mark) != 0)
 		return -EINVAL;
 	memcpy(&said, data, sizeof said);

@@ -7,6 +7,7 @@
 #include <stddef.h>
 
 /* Zero at first. */
+/* Of one open file. mount_contexts_step alone changes it, with the engine's lock. */
 struct mount_context {
 	enum { PARAMETERS, CREATED, MOUNTED, FAILED } phase;
 	bool has_source;

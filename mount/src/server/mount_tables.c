@@ -21,7 +21,9 @@ enum { LONG = 4096, UNOPENED = 1024, SHARE = 4 };
 
 /* ---------------------------------------------------------------- which there are */
 
-/* A change is told once for each descriptor, when that is asked. So one is read and asked, and the other wakes who waits. */
+/* A change is told once for each descriptor, when that is asked. So one is read and asked, and the
+   other wakes who waits. `file` is read and asked, `bell` is in the epoll set. Both belong to this
+   file. `opens`: how many open files show it. */
 static struct table {
 	struct table *next;
 	struct given_table is;
@@ -34,7 +36,9 @@ static struct {
 	long number;
 	int fault;
 } refused; /* the last one for which there was no room */
+/* It belongs to supervisor_questions.c. */
 static int bells = -1; /* an epoll set */
+/* The mount is being unmounted: libfuse's session may be gone. */
 static bool ended;
 
 static void drop(struct table **at)
@@ -47,7 +51,8 @@ static void drop(struct table **at)
 	count--;
 }
 
-/* The program chooses how many tables it opens, and the server needs descriptors for other things too. */
+/* The program chooses how many tables it opens, and the server needs descriptors for other things
+   too. Each table has two. */
 static bool has_room(void)
 {
 	struct rlimit most;
@@ -58,6 +63,7 @@ static void take_given(void)
 {
 	struct given_table given = { .number = 0 };
 	int fds[2];
+	/* It never waits. The descriptors are this function's: they go into a table, or are closed. */
 	while (table_channel_take(&given, fds)) {
 		bool room = has_room();
 		struct table *t = room ? malloc(sizeof *t) : NULL;
@@ -88,7 +94,8 @@ static struct table **find(long number)
 	return at;
 }
 
-/* NULL and why, if there is none. */
+/* NULL and why, if there is none. What the helper sends comes before any program can name it: so
+   what is there now has it. */
 static struct table *get(long number, int *fault)
 {
 	WANTS_LOCK();
@@ -115,6 +122,7 @@ int mount_tables_open(long number)
 	return fault;
 }
 
+/* A table that was given and never opened goes by UNOPENED. */
 void mount_tables_close(long number)
 {
 	struct table **at = find(number);
@@ -126,6 +134,7 @@ void mount_tables_close(long number)
 /* ---------------------------------------------------------------- the texts */
 
 /* A word of a line, counted from 0. */
+/* False if there is no such word, or if it is too long. */
 static bool take_word(const char *line, int which, char *out, size_t size)
 {
 	line += strspn(line, " ");
@@ -142,6 +151,7 @@ static bool take_word(const char *line, int which, char *out, size_t size)
 }
 
 /* A line of mountinfo without its end. The mount's root is shown relative to the root of the reader's namespace. */
+/* The fourth word is the mount's root: the path of a group, or of a file in one. */
 static void put_info(FILE *out, const char *line, const char *root)
 {
 	char group[LONG], seen[LONG];
@@ -173,6 +183,7 @@ struct line {
 	char place[LONG], type[64], source[64];
 };
 
+/* False for a line in a form that is not known: it is shown as it is. */
 static bool read_line(char *line, const struct form *f, struct line *out)
 {
 	out->tail = f == &forms[1] ? strstr(line, " - ") : line;
@@ -181,6 +192,7 @@ static bool read_line(char *line, const struct form *f, struct line *out)
 		take_word(out->tail, f->source, out->source, sizeof out->source);
 }
 
+/* The type is what run_namespaces_mount has asked for. */
 static bool is_hierarchy(const struct line *l)
 {
 	return strcmp(l->type, "fuse.cgroup2") == 0 && strcmp(l->source, cgroup_source) == 0;
@@ -191,6 +203,7 @@ static bool is_machines(const struct line *l)
 	return strcmp(l->type, "cgroup") == 0 || strcmp(l->type, "cgroup2") == 0;
 }
 
+/* The place where the hierarchy is mounted first. */
 static bool is_usual(const struct line *l)
 {
 	return strcmp(l->place, cgroup_mount) == 0;
@@ -251,6 +264,8 @@ static int read_kernels(int file, char **out)
 			*out = at;
 			room = more;
 		}
+		/* The kernel gives a table in parts, and makes each when it is read. A mount that comes in
+		   between may be missing, as for any reader. */
 		n = pread(file, *out + size, room - 1 - size, (off_t)size);
 		size += n > 0 ? (size_t)n : 0;
 	} while (n > 0);
@@ -258,6 +273,7 @@ static int read_kernels(int file, char **out)
 	return n < 0 ? -errno : 0;
 }
 
+/* With the lock: the kernel makes the text from its own memory, and waits for no file system. */
 int mount_tables_read(long number, int (*keep)(void *, const char *, size_t), void *to)
 {
 	cleanup_free char *kernels = NULL, *text = NULL;
@@ -267,6 +283,7 @@ int mount_tables_read(long number, int (*keep)(void *, const char *, size_t), vo
 	if (!t)
 		return fault;
 	fault = read_kernels(t->file, &kernels);
+	/* It grows by itself. That it had no memory is seen at the end. */
 	FILE *out = fault ? NULL : open_memstream(&text, &size);
 	if (!out)
 		return fault ? fault : -ENOMEM;
@@ -290,6 +307,7 @@ void mount_tables_ring_in(int set)
 	bells = set;
 }
 
+/* The thread of supervisor_questions.c calls it. */
 void mount_tables_ring(long number)
 {
 	WANTS_LOCK();
@@ -310,11 +328,14 @@ int mount_tables_poll(long number, unsigned *told)
 	t->rings = true;
 	/* after that: a change in between rings, and one before is seen here */
 	struct pollfd file = { .fd = t->file, .events = POLLIN | POLLRDNORM | POLLPRI };
+	/* It never waits. The kernel reports a change once for each descriptor, and the answer takes
+	   it. */
 	poll(&file, 1, 0);
 	*told = (unsigned)file.revents;
 	return 0;
 }
 
+/* With the lock: a thread that rings has it too, so none rings after this. */
 void mount_tables_end(void)
 {
 	engine_lock();

@@ -8,9 +8,11 @@
 #include <sys/stat.h>
 #include <unistd.h>
 
-/* Beyond the numbers of any group. What is in the control directory has one number after the directory's. */
+/* Beyond the numbers of any group. What is in the control directory has one number after the
+   directory's. A group's number counts up by NUMBERS_OF_GROUP, and never comes that far. */
 static const uint64_t number_control = (uint64_t)1 << 62;
 
+/* One step for a file and one search for its group, since the number says both. */
 int nodes_find(uint64_t number, struct node *out)
 {
 	WANTS_LOCK();
@@ -19,12 +21,15 @@ int nodes_find(uint64_t number, struct node *out)
 		out->control = CONTROL_ITSELF + (long)(number - number_control);
 		return 0;
 	}
+	/* Numbers of groups are NUMBER_ROOT and a multiple of NUMBERS_OF_GROUP: what is left over is
+	   the file's place. */
 	uint64_t within = (number - NUMBER_ROOT) % NUMBERS_OF_GROUP;
 	out->group = group_state_numbered(number - within);
 	out->file = within ? file_in_place(within - 1) : NULL;
 	return out->group && (out->file || !within) ? 0 : -ENOENT;
 }
 
+/* It is the inverse of nodes_find: the same number as long as the group exists. */
 uint64_t nodes_number(const struct node *node)
 {
 	if (!node->group)
@@ -32,11 +37,14 @@ uint64_t nodes_number(const struct node *node)
 	return node->group->number + (node->file ? 1 + file_place(node->file) : 0);
 }
 
+/* What is neither the directory of the controls nor a group is a regular file. */
 bool nodes_is_directory(const struct node *node)
 {
 	return node->group ? !node->file : node->control == CONTROL_ITSELF || node->control == CONTROL_HIDDEN;
 }
 
+/* 0755 for every directory. The mount belongs to one user, so only what the kernel's files allow
+   is checked. */
 mode_t nodes_mode(const struct node *node)
 {
 	if (nodes_is_directory(node))
@@ -44,6 +52,7 @@ mode_t nodes_mode(const struct node *node)
 	return S_IFREG | (node->group ? file_mode(node->file) : control_mode(node->control));
 }
 
+/* The superuser may do all, as with CAP_DAC_OVERRIDE. Directories are open to all. */
 int nodes_may(const struct node *node, int mask, uid_t uid)
 {
 	mode_t mode = nodes_mode(node);
@@ -52,6 +61,8 @@ int nodes_may(const struct node *node, int mask, uid_t uid)
 	return (mask & R_OK && !(mode & 0444)) || (mask & W_OK && !(mode & 0222)) ? -EACCES : 0;
 }
 
+/* The control directory's path has its name before that of the file. 4,095 bytes is the most that
+   the trace language takes. */
 int nodes_path(const struct node *directory, const char *name, char out[PATH_MAX_SAID])
 {
 	bool is_control = !directory->group && directory->control == CONTROL_ITSELF;
@@ -61,6 +72,7 @@ int nodes_path(const struct node *directory, const char *name, char out[PATH_MAX
 	return n < PATH_MAX_SAID ? 0 : -ENAMETOOLONG;
 }
 
+/* A negative number is an errno, except CONTROL_ITSELF. */
 static int find_control(const char *path, struct node *out)
 {
 	long control = control_find(path);
@@ -70,6 +82,7 @@ static int find_control(const char *path, struct node *out)
 	return 0;
 }
 
+/* A group whose state is remembered exists: a removal drops the state. Else the engine knows. */
 static int find_group(const char *path, struct node *out)
 {
 	struct group_state *r = group_state_find(path);
@@ -80,6 +93,7 @@ static int find_group(const char *path, struct node *out)
 	return out->group ? 0 : -ENOMEM;
 }
 
+/* It may make the state of the group above, which was looked up by nobody. */
 int nodes_find_above(const struct node *node, struct node *out)
 {
 	char path[PATH_MAX_SAID] = "/";
@@ -95,6 +109,7 @@ int nodes_find_above(const struct node *node, struct node *out)
 	return out->group ? 0 : -ENOMEM;
 }
 
+/* For file handles, as of name_to_handle_at: the kernel finds them by "." and "..". */
 static int find_relative(const struct node *node, bool above, struct node *out)
 {
 	if (above)
@@ -106,6 +121,7 @@ static int find_relative(const struct node *node, bool above, struct node *out)
 int nodes_find_below(const struct node *directory, const char *name, struct node *out)
 {
 	char path[PATH_MAX_SAID];
+	/* The kernel sends these two only for file handles (FUSE_CAP_EXPORT_SUPPORT). */
 	bool above = strcmp(name, "..") == 0;
 	WANTS_LOCK();
 	if (directory->group && directory->group->gone)
@@ -125,6 +141,7 @@ int nodes_find_below(const struct node *directory, const char *name, struct node
 	return directory->group ? find_group(path, out) : -ENOENT;
 }
 
+/* The count protects the state: it is freed once the group is gone and this is 0. */
 void nodes_known(const struct node *node)
 {
 	WANTS_LOCK();
@@ -132,10 +149,12 @@ void nodes_known(const struct node *node)
 		node->group->known++;
 }
 
+/* The kernel may forget many look-ups by one message. */
 void nodes_forget(uint64_t number, uint64_t count)
 {
 	struct node node;
 	WANTS_LOCK();
+	/* The control directory is there for as long as the mount, and is not counted. */
 	if (nodes_find(number, &node) || !node.group)
 		return;
 	node.group->known -= count;

@@ -5,6 +5,8 @@
 
 #include "server/group_state.h"
 
+/* A value, which is used up within one request: the state that it points to may be dropped
+   afterwards. */
 struct node {
 	struct group_state *group; /* NULL: the control directory, or something in it */
 	const struct file *file; /* NULL: the group itself */

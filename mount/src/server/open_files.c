@@ -15,6 +15,7 @@ static struct open_file **list_of(struct group_state *group)
 	return group ? &group->open_files : &alone;
 }
 
+/* Lists in both directions: a file is closed in one step, however many are open. */
 static void enter(struct open_file *o, struct group_state *group)
 {
 	struct open_file **list = list_of(group);
@@ -44,11 +45,13 @@ struct open_file *open_files_new(struct group_state *group, const struct file *f
 		return NULL;
 	o->file = file;
 	o->control = control;
+	/* A file that was never read reports a change, as in the kernel. */
 	o->changed = control < CONTROL_WHERE; /* /proc/PID/cgroup tells of no change */
 	enter(o, group);
 	return o;
 }
 
+/* libfuse gives back the pointer that open_files_reply has put there. */
 struct open_file *open_files_of(const struct fuse_file_info *fi)
 {
 	return (struct open_file *)(uintptr_t)fi->fh;
@@ -57,6 +60,8 @@ struct open_file *open_files_of(const struct fuse_file_info *fi)
 void open_files_reply(fuse_req_t req, int fault, struct open_file *o, struct fuse_file_info *fi)
 {
 	fi->fh = (uintptr_t)o;
+	/* The reply is sent without the lock. Once it is sent, the file belongs to the kernel, which
+	   may close it in another thread. */
 	if (fault) {
 		fuse_reply_err(req, -fault);
 	} else if (fuse_reply_open(req, fi) == -ENOENT) { /* the caller was interrupted, and the kernel closes nothing */
@@ -83,6 +88,7 @@ static void wake(struct open_file *o)
 	o->waiting = NULL;
 }
 
+/* It has no group from now on: reads and writes of it fail, and who polls it is woken. */
 static void lose(struct open_file *o)
 {
 	leave(o);
@@ -90,11 +96,13 @@ static void lose(struct open_file *o)
 	wake(o);
 }
 
+/* The caller has taken care that nobody else uses it: the kernel has released it, or never had it. */
 void open_files_free(struct open_file *o)
 {
 	WANTS_LOCK();
 	if (o->waiting)
 		fuse_pollhandle_destroy(o->waiting);
+	/* The table was opened with this file (open_node). */
 	if (!o->file && o->control >= CONTROL_TABLE)
 		mount_tables_close(o->control - CONTROL_TABLE);
 	leave(o);
@@ -105,6 +113,7 @@ void open_files_free(struct open_file *o)
 int open_files_keep(struct open_file *o, const char *text, size_t size)
 {
 	WANTS_LOCK();
+	/* First: without memory the earlier text stays, and with it a read that continues it. */
 	char *copy = malloc(size + 1);
 	if (!copy)
 		return -ENOMEM;
@@ -116,13 +125,16 @@ int open_files_keep(struct open_file *o, const char *text, size_t size)
 	return 0;
 }
 
-/* A read that begins where the last one ended continues the earlier text; any other gets the current text. */
+/* A read that begins where the last one ended continues the earlier text; any other gets the
+   current text. So a text that is read in parts is one text, although the hierarchy changes in
+   between. */
 bool open_files_goes_on(const struct open_file *o, off_t at)
 {
 	WANTS_LOCK();
 	return at != 0 && o->text && at == o->read_to;
 }
 
+/* Without a kept text its size is 0. */
 size_t open_files_has(const struct open_file *o, size_t size, off_t at)
 {
 	WANTS_LOCK();
@@ -131,6 +143,7 @@ size_t open_files_has(const struct open_file *o, size_t size, off_t at)
 	return size < o->size - (size_t)at ? size : o->size - (size_t)at;
 }
 
+/* `size` is what open_files_has returned. */
 void open_files_read(struct open_file *o, char *out, size_t size, off_t at)
 {
 	WANTS_LOCK();
@@ -139,10 +152,12 @@ void open_files_read(struct open_file *o, char *out, size_t size, off_t at)
 	o->read_to = at + (off_t)size;
 }
 
+/* A file is always ready to be read and written. What a poll waits for is the change. */
 unsigned open_files_poll(struct open_file *o, struct fuse_pollhandle *waiter)
 {
 	WANTS_LOCK();
 	if (waiter) {
+		/* The kernel sends a new handle with each poll. The old one is not needed any more. */
 		if (o->waiting)
 			fuse_pollhandle_destroy(o->waiting);
 		o->waiting = waiter;
@@ -150,6 +165,7 @@ unsigned open_files_poll(struct open_file *o, struct fuse_pollhandle *waiter)
 	return POLLIN | POLLOUT | POLLRDNORM | POLLWRNORM | (o->changed || !o->of ? POLLERR | POLLPRI : 0);
 }
 
+/* Every open file of it, whoever has it open. */
 void open_files_wake(const struct group_state *r, const struct file *file)
 {
 	WANTS_LOCK();
@@ -158,6 +174,7 @@ void open_files_wake(const struct group_state *r, const struct file *file)
 			wake(o);
 }
 
+/* Files without a group are in the list of the root's (open_node). */
 void open_files_wake_control(long control)
 {
 	const struct group_state *root = group_state_find("/");
@@ -170,12 +187,14 @@ void open_files_lose_files(struct group_state *r, unsigned controllers)
 {
 	WANTS_LOCK();
 	for (struct open_file *o = r->open_files, *next; o; o = next) {
+		/* First: `lose` moves the file to another list. */
 		next = o->next;
 		if (o->file && o->file->controller & controllers)
 			lose(o);
 	}
 }
 
+/* Each leaves the list, so the first one is always another. */
 void open_files_lose(struct group_state *r)
 {
 	WANTS_LOCK();

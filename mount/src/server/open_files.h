@@ -13,11 +13,14 @@ struct open_file {
 	struct group_state
 		*of; /* NULL once the group was removed, or has lost the file's controller; and of the control directory */
 	const struct file *file; /* NULL: a directory, or a file of the control directory */
+	/* Else the number of a file of the control directory (control.h), or A_DIRECTORY. */
 	long control;
+	/* Owned by this structure. The lock protects it, since several reads may come at once. */
 	char *text; /* of the last read that did not continue an earlier one */
 	size_t size;
 	off_t read_to; /* where the last read ended */
 	bool changed; /* since its last read; true at first */
+	/* Who polls it, until the next change; NULL: nobody. It belongs to this structure. */
 	struct fuse_pollhandle *waiting;
 	struct mount_context context; /* of CONTROL_CONTEXT */
 };

@@ -6,12 +6,14 @@
 #include <errno.h>
 #include <sys/statvfs.h>
 
+/* libfuse calls it once, before the first request, in the thread that serves. */
 static void start(void *unused, struct fuse_conn_info *connection)
 {
 	(void)unused;
 	connection->want |= connection->capable & FUSE_CAP_EXPORT_SUPPORT; /* look-ups of . and .. (nodes.h) */
 }
 
+/* f_ffree has the mark: the number of free files means nothing in this file system. */
 static void statfs_group(fuse_req_t req, fuse_ino_t number)
 {
 	struct statvfs st = { .f_bsize = 4096,
@@ -22,6 +24,8 @@ static void statfs_group(fuse_req_t req, fuse_ino_t number)
 	fuse_reply_statfs(req, &st);
 }
 
+/* As in the kernel's file system of groups: files are made by the kernel only. The errno is the
+   one that a kernel returns for this call. */
 static void no_create(fuse_req_t req, fuse_ino_t parent, const char *name, mode_t mode, struct fuse_file_info *fi)
 {
 	(void)parent, (void)name, (void)mode, (void)fi;
@@ -35,6 +39,7 @@ static void no_mknod(fuse_req_t req, fuse_ino_t parent, const char *name, mode_t
 	fuse_reply_err(req, S_ISREG(mode) ? EACCES : EPERM);
 }
 
+/* EPERM for all that a file system of groups does not have. */
 static void no_unlink(fuse_req_t req, fuse_ino_t parent, const char *name)
 {
 	(void)parent, (void)name;
@@ -53,6 +58,7 @@ static void no_link(fuse_req_t req, fuse_ino_t number, fuse_ino_t parent, const 
 	fuse_reply_err(req, EPERM);
 }
 
+/* Flags that a file system does not know come first: EINVAL. */
 static void no_rename(fuse_req_t req, fuse_ino_t parent, const char *name, fuse_ino_t to, const char *to_name,
 	unsigned flags)
 {
@@ -60,12 +66,15 @@ static void no_rename(fuse_req_t req, fuse_ino_t parent, const char *name, fuse_
 	fuse_reply_err(req, flags ? EINVAL : EPERM);
 }
 
+/* Of a directory: the kernel's has no such operation either, so EINVAL. */
 static void no_fsync(fuse_req_t req, fuse_ino_t number, int only_data, struct fuse_file_info *fi)
 {
 	(void)number, (void)only_data, (void)fi;
 	fuse_reply_err(req, EINVAL);
 }
 
+/* libfuse answers ENOSYS for an operation that is missing here. The kernel takes fsync of a file
+   for done then. */
 const struct fuse_lowlevel_ops operations = {
 	.init = start,
 	.lookup = tree_lookup,

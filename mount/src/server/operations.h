@@ -12,10 +12,12 @@ struct look {
 	bool history; /* the control directory is listed, and has the files of a history */
 	bool marked; /* statfs carries a mark by which the supervisor knows this file system */
 	bool no_threads; /* a thread of a run has no number in the hierarchy */
+	/* The owner of what no program has made: the root, its files and the control directory. */
 	uid_t uid;
 	gid_t gid;
-	struct timespec born; /* at each notification */
+	struct timespec born; /* when the mount began */
 };
+/* Set before the server serves, and only read afterwards: so no lock is needed. */
 extern struct look look;
 extern const struct fuse_lowlevel_ops operations;
 

@@ -4,13 +4,15 @@
 #include <errno.h>
 #include <stdlib.h>
 
-/* What was set for a file. Until then a file has the owner and the times that its group began with, and a mode of its own. */
+/* What was set for a file. Until then a file has the owner and the times that its group began
+   with, and a mode of its own. The list of its group owns it, until owner_forget. */
 struct owned {
 	struct owned *next;
 	const struct file *file;
 	struct inode_fields fields;
 };
 
+/* NULL: nothing was set for the file. */
 static struct owned *find(const struct group_state *r, const struct file *file)
 {
 	struct owned *o = r->owned;
@@ -26,6 +28,7 @@ static struct timespec now(void)
 	return t;
 }
 
+/* The times of a new group and of its files are that of its beginning. */
 void owner_begin(struct group_state *r, const struct inode_fields *maker)
 {
 	WANTS_LOCK();
@@ -34,6 +37,7 @@ void owner_begin(struct group_state *r, const struct inode_fields *maker)
 	r->at_first = r->itself;
 }
 
+/* The mode of a file is its own; owner and times are those that the group had when it was made. */
 static struct inode_fields of_file(const struct group_state *r, const struct file *file)
 {
 	const struct owned *o = find(r, file);
@@ -43,11 +47,13 @@ static struct inode_fields of_file(const struct group_state *r, const struct fil
 	return fields;
 }
 
+/* Nothing can be set for these files: they have the owner of the mount, and the time of its start. */
 static struct inode_fields of_control(const struct node *node)
 {
 	return (struct inode_fields){ nodes_mode(node) & 07777, look.uid, look.gid, look.born, look.born, look.born };
 }
 
+/* Size, inode number and number of links are the caller's. */
 void owner_apply(const struct node *node, struct stat *st)
 {
 	WANTS_LOCK();
@@ -68,7 +74,7 @@ void owner_apply(const struct node *node, struct stat *st)
 #pragma GCC diagnostic ignored "-Wanalyzer-malloc-leak"
 #endif
 
-/* Where it is stored; NULL: out of memory. */
+/* Where it is stored; NULL: out of memory. A file takes memory only once something was set for it. */
 static struct inode_fields *stored(const struct node *node)
 {
 	struct group_state *r = node->group;
@@ -90,13 +96,16 @@ static struct inode_fields *stored(const struct node *node)
 #pragma GCC diagnostic pop
 #endif
 
+/* `fields` names what `st` has. Nothing else of `st` is read. */
 int owner_set(const struct node *node, const struct stat *st, int fields)
 {
 	WANTS_LOCK();
 	struct inode_fields *s = stored(node);
 	if (!s)
 		return -ENOMEM;
+	/* Any of these changes sets it. A time that is to be now is the same moment. */
 	s->changed = now();
+	/* The type never changes. */
 	if (fields & FUSE_SET_ATTR_MODE)
 		s->mode = st->st_mode & 07777;
 	if (fields & FUSE_SET_ATTR_UID)
@@ -110,6 +119,7 @@ int owner_set(const struct node *node, const struct stat *st, int fields)
 	return 0;
 }
 
+/* The times of a directory change when a name in it is made or removed. */
 void owner_touch(struct group_state *r)
 {
 	WANTS_LOCK();

@@ -25,6 +25,7 @@
 
 enum { REFUSED = 2 };
 
+/* They belong to the engine once it has begun. */
 static struct trace_file trace, answers;
 
 /* Nothing is changed before everything was found right. */
@@ -43,12 +44,14 @@ static bool open_trace_files(const struct wishes *wishes)
 	return false;
 }
 
+/* What can be refused without a mount is asked for here. */
 bool serve_prepare(const struct wishes *wishes)
 {
 	if (wishes->keep && !controllers_keep(wishes->keep)) {
 		say("--keep takes memory, cpu, io and cpuset, with commas between");
 		return false;
 	}
+	/* Before the mount: afterwards the server looks up no path. */
 	if (wishes->keep && !machine_read()) {
 		say("out of memory");
 		return false;
@@ -67,11 +70,14 @@ bool serve_prepare(const struct wishes *wishes)
 	}
 	look = (struct look){ .history = wishes->control, .uid = getuid(), .gid = getgid() };
 	clock_gettime(CLOCK_REALTIME, &look.born);
+	/* A write to a closed pipe, or beyond a limit of size, returns an errno instead of ending the
+	   server. */
 	signal(SIGPIPE, SIG_IGN);
 	signal(SIGXFSZ, SIG_IGN);
 	return true;
 }
 
+/* nosuid, nodev and noexec, as system managers mount the kernel's own. */
 static struct fuse_session *make_session(void)
 {
 	char *words[] = { "makhloeum", "-o", "fsname=makhloeum,subtype=cgroup2,nosuid,nodev,noexec", NULL };
@@ -81,7 +87,8 @@ static struct fuse_session *make_session(void)
 	return session;
 }
 
-/* Until its first answer nobody can use the mount, and an answer that cannot be written is none. */
+/* Until its first answer nobody can use the mount, and an answer that cannot be written is none.
+   Several threads may answer; one of them calls when_ready. */
 static atomic_bool has_begun;
 static void (*when_ready)(void);
 
@@ -103,6 +110,7 @@ static ssize_t read_request(int from, void *request, size_t size, void *unused)
 	return n;
 }
 
+/* For the hook alone, which gets no session. */
 static struct fuse_session *own_session;
 static int write_fault;
 
@@ -139,6 +147,7 @@ static bool use_own_io(struct fuse_session *session)
 /* A run has one thread for requests: each thread leaves the program less of RLIMIT_NPROC, and operations wait for one lock and never
    for the program. A mount has as many as there are requests at a time, and keeps them. (Without a configuration, libfuse 3.14 leaks
    its own.) */
+/* It returns once the mount was unmounted, or after a signal. */
 static int answer_requests(struct fuse_session *session)
 {
 	struct fuse_loop_config config = { .max_idle_threads = 10 };
@@ -176,6 +185,7 @@ static bool make_root(void)
 	return made;
 }
 
+/* The calling thread serves, and returns at the end of the mount. */
 int serve(const char *where, void (*ready)(void))
 {
 	if (!make_root()) {
@@ -189,10 +199,12 @@ int serve(const char *where, void (*ready)(void))
 		say("no file system can be mounted on %s: /dev/fuse, fusermount3 or the directory does not allow it", where);
 		return REFUSED;
 	}
+	/* A run's companion has the root of the mount already. */
 	if (!look.marked)
 		watch_mounted(where);
 	when_ready = ready;
 	int ended = answer(session), fault = errno;
+	/* Before the unmount: the companion keeps the mount in use as long as it handles a change. */
 	watch_stop();
 	mount_tables_end();
 	fuse_session_unmount(session);
@@ -207,6 +219,7 @@ int serve(const char *where, void (*ready)(void))
 
 /* ---------------------------------------------------------------- makhloeum mount */
 
+/* Closed once the mount is in place, or by the end of this process. */
 static int to_starter = -1; /* a pipe to the process that waits until the mount is in place */
 
 static void tell_starter(void)
@@ -228,6 +241,7 @@ static void tell_starter(void)
 }
 
 /* The starter's part: it ends once the mount is in place, or with the status of the process that failed. */
+/* The caller's shell goes on only once the mount is in place, or learns that it is not. */
 static int wait_for(pid_t server, int from)
 {
 	char status;
@@ -251,6 +265,7 @@ static void unblock_signals(void)
 	sigprocmask(SIG_SETMASK, &none, NULL);
 }
 
+/* The path is made absolute first: the server works in another directory. */
 int mount_directory(const char *directory, const struct wishes *wishes)
 {
 	char whole[PATH_MAX];
@@ -290,6 +305,8 @@ int mount_directory(const char *directory, const struct wishes *wishes)
 		say("a process cannot be started: %s", strerror(errno));
 		return REFUSED;
 	}
+	/* --adopt reads /proc by relative paths. The server must not keep the caller's directory in
+	   use. */
 	if (chdir("/proc") && chdir("/")) {
 		say("/ cannot be entered: %s", strerror(errno));
 		return REFUSED;

@@ -16,13 +16,15 @@
 struct wishes {
 	const char *trace, *answers; /* files that are written from their start, or NULL */
 	const char *keep; /* the controllers whose files are kept, or NULL */
+	/* Of `mount` alone: adopt, foreground. Of `run` alone: as_root, users, no_threads. */
 	bool extra, adopt, control, foreground, as_root, users, no_threads;
 };
 
 /* Opens the files to keep, and makes the engine. False after an error message. */
 bool serve_prepare(const struct wishes *wishes);
-/* Mounts on a directory, or uses a connection "/dev/fd/N" that is mounted already. Then it calls `ready`, and serves until
-   an unmount or a signal ends it. Returns the status for the program. */
+/* Mounts on a directory, or uses a connection "/dev/fd/N" that is mounted already. Then it calls
+   `ready`, and serves until an unmount or a signal ends it. Returns the status for the program.
+   `ready` is called once, by a thread that has sent the first answer. */
 int serve(const char *where, void (*ready)(void));
 /* makhloeum mount DIR */
 int mount_directory(const char *directory, const struct wishes *wishes);

@@ -13,7 +13,8 @@
 #include <sys/socket.h>
 #include <unistd.h>
 
-/* AT_ONCE: the questions that a socket can have, which are answered at once. QUESTION: the number of no table of mounts. */
+/* AT_ONCE: the questions that a socket can have, which are answered at once. QUESTION: the number
+   of no table of mounts. TAKEN: events of one look at the epoll set. */
 enum { AT_ONCE = 1024, TAKEN = 16, QUESTION = 0 };
 
 static void answer(const struct question *q, struct reply *r)
@@ -50,9 +51,12 @@ static void answer(const struct question *q, struct reply *r)
 
 static int supervisor = -1;
 static int sources = -1; /* an epoll set: the supervisor's questions, and changes of tables of mounts */
+/* The supervisor has ended, or its socket is broken. It changes with the lock. */
 static bool is_over;
 static _Thread_local bool is_answerer; /* its turns are no operations of the file system */
 
+/* A birth that fails here has no one to tell: a thread has run already. It is then not in the
+   hierarchy. */
 static void take_events(void)
 {
 	unsigned reservation;
@@ -71,15 +75,19 @@ static void answer_pending(void)
 	for (int left = AT_ONCE; left > 0 && !is_over; left--) {
 		struct reply r = { 0 };
 		ssize_t n = recv(supervisor, &q, sizeof q, MSG_DONTWAIT);
+		/* No question is there: nobody waits. */
 		if (n < 0 && (errno == EAGAIN || errno == EINTR))
 			return;
 		is_over = n <= (ssize_t)offsetof(struct question, group);
 		if (is_over)
 			return;
+		/* A question from the supervisor ends in a zero byte, so this only protects against a
+		   wrong one. */
 		q.group[sizeof q.group - 1] = 0;
 		take_events(); /* first: they were put before the question was sent, and the answer depends on them */
 		answer(&q, &r);
 		if (q.what != EVENTS)
+			/* The supervisor waits for this answer, so its socket has room. */
 			is_over = send(supervisor, &r, sizeof r, MSG_NOSIGNAL) != sizeof r;
 	}
 }
@@ -98,6 +106,7 @@ static void catch_up(void)
 {
 	answer_pending();
 	take_events();
+	/* Then what was allowed in advance is withdrawn: see run_processes_operation. */
 	if (!is_answerer)
 		run_processes_operation();
 }
@@ -107,6 +116,7 @@ static void *answer_all(void *unused)
 	struct epoll_event came[TAKEN];
 	bool ended = false;
 	(void)unused;
+	/* From here on this thread never makes an operation of the file system. */
 	is_answerer = true;
 	while (!ended) {
 		int n = epoll_wait(sources, came, TAKEN, -1); /* if it fails, there may be a question all the same */
@@ -114,6 +124,7 @@ static void *answer_all(void *unused)
 		for (int i = 0; i < n; i++)
 			if (came[i].data.u64 != QUESTION)
 				mount_tables_ring((long)came[i].data.u64);
+		/* With the lock. When the supervisor has closed its end, this thread ends the server. */
 		ended = is_over;
 		engine_unlock();
 	}
@@ -131,6 +142,8 @@ bool supervisor_questions_begin(int end)
 	if (sources < 0 || epoll_ctl(sources, EPOLL_CTL_ADD, supervisor, &question))
 		return false;
 	mount_tables_ring_in(sources);
+	/* Before the thread and before the mount serves: no other thread exists yet that could take
+	   the lock. */
 	engine_lock_calls(catch_up);
 	errno = pthread_create(&thread, NULL, answer_all, NULL);
 	return errno == 0 && pthread_detach(thread) == 0;

@@ -7,6 +7,7 @@
 
 int texts_read(const char *group, const struct file *file, bool keeps, const char **text, size_t *size)
 {
+	/* The lock protects it: the caller copies the text before it gives the lock back. */
 	static char own[TEXT_ROOM];
 	WANTS_LOCK();
 	int fault = file->show ? file->show(group, file, own) : 0;
@@ -17,6 +18,8 @@ int texts_read(const char *group, const struct file *file, bool keeps, const cha
 		*size = strlen(*text);
 		return 0;
 	}
+	/* A file that the engine doesn't know is made of another one's text, by a look: a trace names
+	   only files that cgreplay knows. */
 	if (file->made_of)
 		fault = engine_look("cat %s %s", group, file->made_of);
 	else
@@ -24,6 +27,8 @@ int texts_read(const char *group, const struct file *file, bool keeps, const cha
 	if (fault)
 		return fault;
 	*text = engine_text(size);
+	/* First without the zombies, of which the engine knows nothing, and then with what is frozen
+	   among the others. Each may put a text of its own in place of the engine's. */
 	fault = visible_processes_text(group, file, text, size);
 	return fault ? fault : freezer_text(group, file, text, *size);
 }

@@ -15,6 +15,7 @@ struct look look;
 
 /* ---------------------------------------------------------------- what a stat shows */
 
+/* control_read hands it the text, of which only the length is wanted. */
 static int count_bytes(void *to, const char *text, size_t size)
 {
 	(void)text;
@@ -22,12 +23,14 @@ static int count_bytes(void *to, const char *text, size_t size)
 	return 0;
 }
 
+/* A file that can only be written has no text: its size is 0. A lack of memory is not that. */
 static int control_stat(const struct node *node, struct stat *st)
 {
 	int fault = nodes_is_directory(node) ? 0 : control_read(node->control, count_bytes, st);
 	return fault == -ENOMEM ? fault : 0;
 }
 
+/* As in other file systems, a directory has two links and one for each directory in it. */
 static int group_stat(const struct group_state *group, struct stat *st)
 {
 	const char *names;
@@ -44,6 +47,7 @@ static int file_stat(const struct node *node, struct stat *st)
 	size_t size = 0;
 	if (node->group->gone || !controllers_have(node->group->path, node->file))
 		return 0;
+	/* The text may change by a process that has ended: it is found before the look. */
 	int fault = host_processes_sweep();
 	if (fault == 0 && node->file->readable)
 		fault = texts_read(node->group->path, node->file, false, &text, &size);
@@ -51,6 +55,7 @@ static int file_stat(const struct node *node, struct stat *st)
 	return fault;
 }
 
+/* A removed group still has owners and times, so fstat of an open file works. */
 static int stat_of(const struct node *node, struct stat *st)
 {
 	memset(st, 0, sizeof *st);
@@ -67,15 +72,20 @@ static void reply_stat(fuse_req_t req, int fault, const struct stat *st)
 	if (fault)
 		fuse_reply_err(req, -fault);
 	else
+		/* For 0 seconds: the kernel caches no attributes, since the supervisor and other processes
+		   change what they say. */
 		fuse_reply_attr(req, st, 0);
 }
 
+/* The kernel asks by the number, also for an open file. */
 void tree_getattr(fuse_req_t req, fuse_ino_t number, struct fuse_file_info *fi)
 {
 	struct node node;
 	struct stat st;
 	(void)fi;
 	engine_lock();
+	/* With the lock until the end: else the group could be removed between the look-up and the
+	   stat. */
 	int fault = nodes_find(number, &node);
 	if (fault == 0)
 		fault = stat_of(&node, &st);
@@ -90,6 +100,7 @@ enum {
 	TIMES = FUSE_SET_ATTR_ATIME | FUSE_SET_ATTR_MTIME
 };
 
+/* The companion's change, which is meant for inotify alone: it stores nothing. */
 static bool is_mark(const struct stat *st, int fields)
 {
 	return (fields & TIMES) == FUSE_SET_ATTR_MTIME && st->st_mtim.tv_sec == -MARK;
@@ -98,6 +109,7 @@ static bool is_mark(const struct stat *st, int fields)
 /* A truncation changes nothing. By an open file it is allowed, by a path only if the file may be written. */
 static int set(const struct node *node, const struct stat *st, int fields, bool is_open, uid_t uid)
 {
+	/* An open with O_TRUNC was checked by its own mode already. */
 	if ((fields & FUSE_SET_ATTR_SIZE) && !is_open && uid != 0 && !(nodes_mode(node) & 0222))
 		return -EACCES;
 	if (!node->group)
@@ -105,6 +117,7 @@ static int set(const struct node *node, const struct stat *st, int fields, bool 
 	return (fields & (OWNS | TIMES)) && !is_mark(st, fields) ? owner_set(node, st, fields) : 0;
 }
 
+/* The reply has all attributes, which the kernel shows next. */
 void tree_setattr(fuse_req_t req, fuse_ino_t number, struct stat *st, int fields, struct fuse_file_info *fi)
 {
 	struct node node;
@@ -143,6 +156,7 @@ static int look_up(uint64_t parent, const char *name, struct fuse_entry_param *e
 		fault = nodes_find_below(&directory, name, &node);
 	if (fault == 0)
 		fault = stat_of(&node, &entry->attr);
+	/* From now on its changes are compared: whoever polls or watches it has looked it up before. */
 	if (fault == 0 && node.file && node.file->notified)
 		fault = watch_seen(node.group->path, node.file);
 	if (fault)
@@ -152,6 +166,7 @@ static int look_up(uint64_t parent, const char *name, struct fuse_entry_param *e
 	return 0;
 }
 
+/* A name that is not there is answered with ENOENT, which the kernel does not cache here. */
 void tree_lookup(fuse_req_t req, fuse_ino_t parent, const char *name)
 {
 	struct fuse_entry_param entry = { 0 };
@@ -161,6 +176,7 @@ void tree_lookup(fuse_req_t req, fuse_ino_t parent, const char *name)
 	reply_entry(req, fault, &entry);
 }
 
+/* No reply: the kernel waits for none. */
 void tree_forget(fuse_req_t req, fuse_ino_t number, uint64_t count)
 {
 	engine_lock();
@@ -181,6 +197,7 @@ void tree_forget_several(fuse_req_t req, size_t count, struct fuse_forget_data *
 /* ---------------------------------------------------------------- groups are made and removed */
 
 /* The path of a name in a group that exists. 0 or -errno */
+/* A mkdir or rmdir in the control directory, or of its name, fails with EPERM. */
 static int path_in(uint64_t parent, const char *name, struct node *directory, char path[PATH_MAX_SAID])
 {
 	int fault = nodes_find(parent, directory);
@@ -194,6 +211,7 @@ static int path_in(uint64_t parent, const char *name, struct node *directory, ch
 /* All memory is taken before the engine makes the group. */
 static int make_group(const char *path, const struct inode_fields *maker, struct node *out)
 {
+	/* It may be there although the engine refuses the mkdir, with EEXIST: then its state stays. */
 	bool was_there = group_state_find(path) != NULL;
 	*out = (struct node){ .group = group_state_make(path) };
 	if (!out->group)
@@ -206,6 +224,8 @@ static int make_group(const char *path, const struct inode_fields *maker, struct
 	return fault;
 }
 
+/* In this order, as in the kernel: the parent, the name, a file of that name, and then what the
+   engine refuses. */
 static int make_below(uint64_t parent, const char *name, const struct inode_fields *maker, struct node *out)
 {
 	char path[PATH_MAX_SAID];
@@ -228,11 +248,13 @@ void tree_mkdir(fuse_req_t req, fuse_ino_t parent, const char *name, mode_t mode
 	struct fuse_entry_param entry = { .attr.st_nlink = 2 };
 	struct node made;
 	engine_lock();
+	/* The kernel's mkdir, too, keeps only these bits of the mode. */
 	int fault = make_below(parent, name, &(struct inode_fields){ .mode = mode & 01777, .uid = by->uid, .gid = by->gid },
 		&made);
 	if (fault == 0) {
 		entry.ino = entry.attr.st_ino = nodes_number(&made);
 		owner_apply(&made, &entry.attr);
+		/* The reply is a look-up, which the kernel forgets later. */
 		nodes_known(&made);
 	}
 	engine_unlock();
@@ -255,11 +277,13 @@ static int remove_below(uint64_t parent, const char *name)
 	}
 	if (fault)
 		return fault;
+	/* Only now: the engine has removed it. */
 	group_state_lose(path);
 	owner_touch(directory.group);
 	return 0;
 }
 
+/* The engine refuses it with EBUSY while processes or groups are below. */
 void tree_rmdir(fuse_req_t req, fuse_ino_t parent, const char *name)
 {
 	engine_lock();

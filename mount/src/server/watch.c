@@ -14,6 +14,8 @@
 
 enum { TEXT_MAX = 40, PATH_SIZE = PATH_MAX_SAID + 32 };
 
+/* The list of its group owns it (`next`, with the engine's lock). `to_tell` and `queued` belong to
+   the queue, and need its lock. `text`: what was last compared. */
 struct watched {
 	struct watched *next; /* among those of the group */
 	struct watched *to_tell; /* next in the queue of files that the companion is told about */
@@ -46,6 +48,7 @@ static void read_text(struct watched *w, char out[TEXT_MAX])
 	out[size] = 0;
 }
 
+/* A file that nobody ever looked up can neither be polled nor watched, so it is not compared. */
 int watch_seen(const char *group, const struct file *file)
 {
 	WANTS_LOCK();
@@ -70,11 +73,14 @@ int watch_seen(const char *group, const struct file *file)
 static bool first_path(char out[PATH_SIZE])
 {
 	if (queue)
+		/* The path is copied: once the queue's lock is free, the group may be removed and the
+		   entry freed. */
 		snprintf(out, PATH_SIZE, "%s/%s", queue->of->path, queue->file->name);
 	return queue != NULL;
 }
 
 /* With the queue's lock. */
+/* The entry stays in the list of its group. */
 static void take_first(void)
 {
 	queue->queued = false;
@@ -93,6 +99,7 @@ static void *tell(void *unused)
 		pthread_mutex_unlock(&queue_lock);
 		bool is_there = companion_tell(companion.to, path);
 		pthread_mutex_lock(&queue_lock);
+		/* The companion has ended. Nobody is told any more, and the mount goes on without inotify. */
 		stopping |= !is_there;
 	}
 	waits = false;
@@ -106,6 +113,8 @@ static void tell_all(void)
 {
 	char path[PATH_SIZE];
 	pthread_t thread;
+	/* While a thread waits for the companion, it also takes what is queued after that, in this
+	   order. */
 	while (!waits && first_path(path)) {
 		if (companion_tell_now(companion.to, path))
 			take_first();
@@ -122,6 +131,7 @@ static void check(struct watched *w)
 	read_text(w, text);
 	if (text[0] && strcmp(text, w->text) == 0)
 		return;
+	/* First those that poll, in this thread: fuse_lowlevel_notify_poll waits for nobody. */
 	memcpy(w->text, text, TEXT_MAX);
 	open_files_wake(w->of, w->file);
 	/* nobody waits with the queue's lock, so this thread, which has the engine's, soon goes on */
@@ -137,6 +147,7 @@ static void check(struct watched *w)
 	pthread_mutex_unlock(&queue_lock);
 }
 
+/* The texts are read anew: a change that is taken back before the look is no change. */
 static void check_all(const struct group_state *r)
 {
 	for (struct watched *w = r ? r->watched : NULL; w; w = w->next)
@@ -148,6 +159,7 @@ void watch_above(const char *group)
 	char at[PATH_MAX_SAID];
 	WANTS_LOCK();
 	snprintf(at, sizeof at, "%s", group);
+	/* The root has no notified file. */
 	for (; !is_root(at); go_up(at))
 		check_all(group_state_find(at));
 }
@@ -165,11 +177,13 @@ void watch_process(pid_t pid)
 	int fault = engine_where(pid, group, sizeof group);
 	if (fault == 0)
 		watch_above(group);
+	/* Which group it is can't be known now, so all are compared. */
 	else if (fault == -ENOMEM)
 		watch_below("/");
 }
 
-/* Removes an entry from the queue. */
+/* Removes an entry from the queue. Without it the queue would keep a pointer to memory that is
+   freed. */
 static void unqueue(struct watched *w)
 {
 	pthread_mutex_lock(&queue_lock);
@@ -194,11 +208,13 @@ void watch_forget(struct group_state *r)
 	}
 }
 
+/* In the process that mounts, before the server exists. */
 bool watch_begin(const char *mountpoint, int root)
 {
 	return companion_start(&companion, mountpoint, root);
 }
 
+/* Before anybody can use the mount: serve calls it before the first request is answered. */
 void watch_mounted(const char *mountpoint)
 {
 	struct mount_id which;
@@ -215,8 +231,9 @@ pid_t watch_leave(void)
 	return companion.process;
 }
 
-/* The companion may be stopped, or wait for this server. So the thread that writes to it is not waited for before its socket
-   was shut. */
+/* The companion may be stopped, or wait for this server. So the thread that writes to it is not
+   waited for before its socket was shut. It is closed only when that thread has gone: before, the
+   number of the descriptor could become another file's while the thread writes to it. */
 void watch_stop(void)
 {
 	pthread_mutex_lock(&queue_lock);

@@ -20,6 +20,7 @@ void watch_stop(void);
 /* The rest requires the engine's lock. A notified file was looked up. 0 or -ENOMEM */
 int watch_seen(const char *group, const struct file *file);
 /* The processes of a group, or its refused forks, have changed: its files and those above it may have changed. */
+/* The calls below compare at once, and wait for nobody. */
 void watch_above(const char *group);
 /* Those of a group and of groups below it have changed: its files, those below it and those above it may have changed. */
 void watch_below(const char *group);

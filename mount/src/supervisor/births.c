@@ -15,29 +15,33 @@
 #include <sys/wait.h>
 
 /* How long a child whose creator was killed may take to reach its first stop. It exists already and only has to be
-   scheduled. */
+   scheduled. PLACES: how many births there may be at once; the next call fails with EAGAIN. GRACE: milliseconds. */
 enum { PLACES = 65536, GRACE = 1000 };
 
-/* A birth reads the arguments of a clone3, then it is reserved, then it runs, and at last it is told: the hierarchy has the child. Before
-   it runs, the death of its creator ends it. Once it runs, the kernel may have made the child already, so the record waits for
-   that. */
+/* A birth reads the arguments of a clone3, then it is reserved, then it runs, and at last it is told: the hierarchy
+   has the child. Before it runs, the death of its creator ends it. Once it runs, the kernel may have made the child
+   already, so the record waits for that. */
 struct birth {
 	unsigned long ticket;
 	struct thread *creator; /* NULL: gone */
-	pid_t process, child;
+	pid_t process, child; /* the child's number is known once it is told */
 	bool is_thread, reads, reserved, told, runs; /* runs: the call is being made */
 	bool was_clone3;
 	bool stops_at_exec; /* its creator does */
 	bool makes_space; /* a cgroup namespace that the server does not know yet */
 	int fault; /* if told: the errno that the call returns instead of a child */
 	unsigned reservation;
+	/* Without a creator: the time (milliseconds) at which its child no longer comes. */
 	long long given_up_at;
 	struct registers before; /* the creator's, at the stop */
 };
 
+/* Each birth has the place of its ticket modulo PLACES. Tickets count on, so each place is written in turn, and takes
+   its memory then: half a megabyte after PLACES births. */
 static struct birth *births[PLACES];
 static unsigned last_ticket; /* half of a register: the other half says whether the call was a clone3 */
 static size_t lost; /* births without a creator whose child has not come yet */
+/* The earliest given_up_at of those without a creator, or earlier; 0: none was ever lost. */
 static long long next_look;
 static bool counts_threads;
 
@@ -47,6 +51,7 @@ static struct birth *find(unsigned long ticket)
 	return b && b->ticket == ticket ? b : NULL; /* a place may be that of another ticket by now */
 }
 
+/* A ticket is not used again before all others were: a child that comes too late, with an old ticket, finds no birth. */
 static struct birth *begin(struct thread *t)
 {
 	int tries = 0;
@@ -65,6 +70,8 @@ static struct birth *begin(struct thread *t)
 	return b;
 }
 
+/* What the server was told before the call, and what the child has not used, is taken back here: the reservation, and
+   the namespace that was prepared. So no way out of a birth leaves it. */
 static void end(struct birth *b)
 {
 	if (b->reserved)
@@ -79,7 +86,8 @@ static void end(struct birth *b)
 	free(b);
 }
 
-/* A birth ends once neither its creator nor its child needs its record. */
+/* A birth ends once neither its creator nor its child needs its record. The child needs it until its first stop, which
+   restores its registers. */
 static void end_if_over(struct birth *b)
 {
 	struct thread *child = threads_find(b->child);
@@ -92,6 +100,8 @@ void births_count_threads(bool count)
 	counts_threads = count;
 }
 
+/* No call of the program makes this process, so there is no ticket. It has no parent in the hierarchy (0), and is
+   placed in the root. */
 bool births_first(pid_t program)
 {
 	unsigned reservation;
@@ -119,6 +129,7 @@ bool births_is_fork(long number)
 
 /* ---------------------------------------------------------------- before the call */
 
+/* The error is a positive errno. The call is skipped at its stop, so the kernel makes nothing. */
 static void refuse(struct thread *t, int error)
 {
 	struct registers before = t->makes->before;
@@ -135,6 +146,8 @@ static void make(struct thread *t, struct birth *b, long number, struct clone_re
 	b->is_thread = args->flags & CLONE_THREAD;
 	bool counts = !b->is_thread || counts_threads;
 	int fault = !counts && group ? -EOPNOTSUPP : 0;
+	/* A reservation that the server gave in advance saves a question, on which the thread would wait. A child for
+	   another group is asked for, since what was allowed in advance is for the process's own group. */
 	b->reservation = counts && !group ? advance_take(b->process, b->is_thread) : 0;
 	if (counts && !b->reservation)
 		fault = link_reserve(b->process, group, b->is_thread, &b->reservation);
@@ -161,8 +174,8 @@ static void make(struct thread *t, struct birth *b, long number, struct clone_re
 		tracee_run_call(t->id);
 }
 
-/* clone3 has its arguments in memory. Other threads of the program can write there, and a file system of the program can
-   block a read. So another process, which may wait, reads them once. */
+/* clone3 has its arguments in memory. Other threads of the program can write there, and a file system of the program
+   can block a read. So another process, which may wait, reads them once. */
 static void read_arguments(struct thread *t, struct birth *b, const struct clone_registers *regs)
 {
 	int fault = registers_check_clone_size(regs->stack);
@@ -201,6 +214,7 @@ void births_arguments(const struct helper_reply *reply)
 {
 	struct clone_registers args;
 	struct birth *b = find(reply->ticket);
+	/* The helper may answer long after the question: the birth may have ended, and its place be another's. */
 	if (!b || !b->reads || !b->creator)
 		return; /* it was killed meanwhile */
 	struct thread *t = b->creator;
@@ -226,8 +240,8 @@ static bool is_no_more(pid_t child)
 	return waitid(P_PID, (id_t)child, &unused, WEXITED | WSTOPPED | WNOHANG | WNOWAIT | __WALL) && errno == ECHILD;
 }
 
-/* Tells the hierarchy about a child that has not run. If that fails, the child does not run, and the call returns an errno.
-    */
+/* Tells the hierarchy about a child that has not run. If that fails, the child does not run, and the call returns an
+   errno. */
 static struct thread *settle(struct birth *b, pid_t child)
 {
 	struct thread *t = NULL;
@@ -239,9 +253,12 @@ static struct thread *settle(struct birth *b, pid_t child)
 		lost--;
 	b->told = true;
 	b->child = child;
+	/* The kernel's event names the child also when it was killed at once. Its number may then be free already. */
 	bool ended = is_no_more(child);
 	if (!ended && !(t = threads_add(child, b->is_thread ? b->process : child)))
 		fault = -ENOMEM;
+	/* The server's answer is waited for: whether the child may run, and whether it is born frozen. A thread is only
+	   reported: it was allowed before the call. */
 	else if (!b->is_thread) {
 		fault = link_born(b->reservation, child, &frozen);
 		b->reserved = false;
@@ -255,6 +272,7 @@ static struct thread *settle(struct birth *b, pid_t child)
 		t->stops_at_exec = b->stops_at_exec;
 		t->frozen |= frozen;
 		t->counted |= !b->is_thread && fault == 0;
+		/* Now the namespace exists, and the child, which is stopped, shows its number. */
 		if (b->makes_space && fault == 0) {
 			link_namespace(namespaces_cgroup_of(child), (unsigned)b->ticket);
 			b->makes_space = false;
@@ -281,6 +299,7 @@ void births_told(struct thread *creator, pid_t child)
 		tracee_run_call(creator->id);
 		return;
 	}
+	/* The creator is still in its call: the program must find its own arguments there when it returns. */
 	tracee_restore_in(creator->id, &b->before);
 	creator->makes = NULL;
 	b->creator = NULL;
@@ -299,6 +318,7 @@ void births_returned(struct thread *t)
 		tracee_restore(t->id, &now, &b->before);
 	if (b->fault)
 		(void)registers_set_result(t->id, b->fault); /* it fails only if the thread was killed */
+	/* The kernel has made a child that may not run. It was killed, and may not have ended yet. */
 	if (b->told)
 		births_abandon(t);
 	else
@@ -350,6 +370,8 @@ void births_abandon(struct thread *t)
 	if (!b->told) {
 		lost++;
 		b->given_up_at = milliseconds() + GRACE;
+		/* It exists already if the kernel has finished the call before the kill. Until it comes, or GRACE is over, it
+		   keeps its reservation. */
 		if (next_look == 0 || b->given_up_at < next_look)
 			next_look = b->given_up_at;
 	}

@@ -15,15 +15,16 @@ void births_count_threads(bool count);
 /* The first process; false if it cannot be recorded. */
 bool births_first(pid_t program);
 bool births_is_fork(long number);
-/* A thread is at the stop before such a call. */
+/* A thread is at the stop before such a call. It may wait for the server, and never for the
+   helper: births_arguments continues then. */
 void births_ask(struct thread *t, long number);
 /* The arguments of a clone3, which the helper has read. */
 void births_arguments(const struct helper_reply *reply);
-/* The creator's event names a child. */
+/* The creator's event names a child. It continues the creator. */
 void births_told(struct thread *creator, pid_t child);
 /* It is at the stop after a call. */
 void births_returned(struct thread *t);
-/* A thread is at its first stop. NULL if it never runs. */
+/* A thread is at its first stop. NULL if it never runs. It leaves the thread at its stop. */
 struct thread *births_appeared(pid_t child);
 /* A thread has ended, or another has its number by an exec: its child completes the birth. */
 void births_abandon(struct thread *t);

@@ -33,6 +33,7 @@
 /* The bit that marks system call numbers of x32: other numbers for the same calls. */
 enum { X32 = 0x40000000 };
 
+/* Each of these is one instruction or a few. The number is how many of the following are skipped. */
 #define LOAD(field) BPF_STMT(BPF_LD | BPF_W | BPF_ABS, offsetof(struct seccomp_data, field))
 #define ANSWER(what) BPF_STMT(BPF_RET | BPF_K, what)
 #define FAIL(error) ANSWER(SECCOMP_RET_ERRNO | (error))
@@ -65,8 +66,9 @@ static const unsigned other_mounts = MS_REMOUNT | MS_BIND | MS_MOVE | MS_SHARED 
 /* Opens with these flags do not read a text of /proc. */
 static const unsigned other_opens = O_WRONLY | O_DIRECTORY | O_PATH;
 
-/* A signal does not interrupt a call that waits for the helper, as it does not interrupt an open of a file on a disk.
-   Before Linux 5.19 it does. */
+/* A signal does not interrupt a call that waits for the helper, as it does not interrupt an open
+   of a file on a disk. Before Linux 5.19 it does. The descriptor is the listener. It belongs to
+   the caller, and closes at an exec. */
 static int install(const struct sock_fprog *program)
 {
 	const unsigned long flags = SECCOMP_FILTER_FLAG_NEW_LISTENER;
@@ -132,6 +134,8 @@ int filter_install(void)
 	return fd;
 }
 
+/* It has to agree with the filter above: what a filter of the program sends to the tracer, and
+   this one does not, is refused by the supervisor. */
 bool filter_stops(long call, const uint64_t args[6])
 {
 	switch (call) {
@@ -160,6 +164,7 @@ bool filter_stops(long call, const uint64_t args[6])
 	}
 }
 
+/* prctl and seccomp are the two calls that add one. */
 bool filter_is_added(long call, const uint64_t args[6])
 {
 	return call == SYS_prctl ? args[1] == SECCOMP_MODE_FILTER : (unsigned)args[0] == SECCOMP_SET_MODE_FILTER;
@@ -177,11 +182,14 @@ int filter_wants_strict(long call, const uint64_t args[6])
 	return call == SYS_seccomp && ((unsigned)args[1] || args[2]) ? -EINVAL : 0;
 }
 
+/* More than one: the program has a filter of its own beside this one. The kernel then refuses
+   strict mode. */
 int filter_strict_result(long filters)
 {
 	return filters > 1 ? -EINVAL : 0;
 }
 
+/* The four calls of the kernel's strict mode. */
 bool filter_strict_allows(long call)
 {
 	return call == SYS_read || call == SYS_write || call == SYS_exit || call == SYS_rt_sigreturn;

@@ -25,7 +25,8 @@ void frozen_threads_vforks(struct thread *t);
 int frozen_threads_look_again(void);
 /* The thread is about to be dropped. */
 void frozen_threads_forget(struct thread *t);
-/* After a change: tells the server whether all threads of the process rest now. */
+/* After a change: tells the server whether all threads of the process rest now. It may wait for
+   the server. */
 void frozen_threads_tell(pid_t process);
 
 #endif

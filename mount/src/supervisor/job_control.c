@@ -8,14 +8,17 @@
 /* For how long the other processes of the group may handle the signal before they are kept from it: milliseconds. */
 enum { GRACE = 300 };
 
+/* This process owns it, until its end. */
 static int terminal = -1;
 
+/* The descriptor belongs to this file. */
 void job_control_begin(int fd)
 {
 	terminal = fd;
 }
 
-/* 0 while it runs: a freezer's stop is none. */
+/* 0 while it runs: a freezer's stop is none. LISTENS is the rest of a thread that a signal has
+   stopped. */
 static int signal_that_stopped(const struct thread *first)
 {
 	return first && first->rest == LISTENS && first->resting == first->members ? first->stopped_by : 0;
@@ -24,6 +27,7 @@ static int signal_that_stopped(const struct thread *first)
 /* Whether the parent is a shell that waits for stopped jobs: the kernel, too, stops nothing for a terminal where there is none. */
 static bool is_job_of_shell(void)
 {
+	/* A shell with job control has the same session and another process group. */
 	pid_t parent = getppid();
 	return parent > 0 && getsid(parent) == getsid(0) && getpgid(parent) != getpgrp();
 }
@@ -34,7 +38,8 @@ static bool is_followed(const struct thread *first)
 	return threads_count() == first->members || is_job_of_shell();
 }
 
-/* Whether another process of the run has still to handle the signal that the whole group got: an editor restores the terminal first. */
+/* Whether another process of the run has still to handle the signal that the whole group got: an
+   editor restores the terminal first. After GRACE it stops without them. */
 static bool has_unstopped_others(const struct thread *first)
 {
 	for (const struct thread *t = threads_all(); t; t = t->next)
@@ -43,6 +48,7 @@ static bool has_unstopped_others(const struct thread *first)
 	return false;
 }
 
+/* A group that the program has left is not one of its own any more. */
 static bool is_group_of_run(pid_t group)
 {
 	for (const struct thread *t = threads_all(); t; t = t->next)
@@ -51,7 +57,8 @@ static bool is_group_of_run(pid_t group)
 	return false;
 }
 
-/* By the same signal, so that the shell says why. */
+/* By the same signal, so that the shell says why. Everything else of the run waits meanwhile: no
+   event of the program is handled until SIGCONT. */
 static void stop_by(int signal)
 {
 	static const struct signal_action stops = { .handler = SIG_DFL }, ignored = { .handler = SIG_IGN };
@@ -66,7 +73,9 @@ static void stop_by(int signal)
 	(void)signal_action(signal, &ignored, NULL);
 }
 
-/* A shell gives the terminal back to the group of its job. A program that is a shell itself had given it to a group of its own. */
+/* A shell gives the terminal back to the group of its job. A program that is a shell itself had
+   given it to a group of its own. The shell may have done so while this process was stopped, so
+   the group is read again afterwards. */
 static void stop(int signal)
 {
 	pid_t had = tcgetpgrp(terminal);
@@ -79,6 +88,7 @@ static void stop(int signal)
 int job_control_follow(pid_t program)
 {
 	static long long since; /* 0: it runs */
+	/* It has stopped for this stop of the program already. */
 	static bool followed;
 	const struct thread *first = threads_find(program);
 	int signal = signal_that_stopped(first);
@@ -98,6 +108,8 @@ int job_control_follow(pid_t program)
 	signals_hear(program);
 	if (signals_waits(SIGCONT))
 		return -1;
+	/* First: after the SIGCONT the program may not have continued yet, and this must not stop
+	   again for the same stop. */
 	followed = true;
 	stop(signal);
 	return 0;

@@ -19,13 +19,16 @@ bool link_make(int ends[2])
 	return socketpair(AF_UNIX, SOCK_SEQPACKET | SOCK_CLOEXEC, 0, ends) == 0;
 }
 
-/* The next question is sent only after the reply to the last, so replies need no numbers. */
+/* The next question is sent only after the reply to the last, so replies need no numbers. -1:
+   there is none, or it has failed once. Then every question is answered at once, by what allows
+   nothing. */
 static int server = -1;
 static pid_t server_process;
 
 void link_use(int end, pid_t process)
 {
 	/* then it is looked whether the program has stopped the server: all its threads wait for the supervisor meanwhile */
+	/* 20 milliseconds. */
 	struct timeval patience = { 0, 20000 };
 	server = end;
 	server_process = process;
@@ -34,8 +37,8 @@ void link_use(int end, pid_t process)
 	setsockopt(end, SOL_SOCKET, SO_SNDTIMEO, &patience, sizeof patience);
 }
 
-/* After a call that failed: whether it is tried again. The program may stop the server, which has the same user: then it is
-   continued. */
+/* After a call that failed: whether it is tried again. The program may stop the server, which has
+   the same user: then it is continued. EAGAIN is the end of the patience. */
 static bool go_on_waiting(void)
 {
 	if (errno != EAGAIN && errno != EINTR)
@@ -48,6 +51,7 @@ static bool go_on_waiting(void)
    server was stopped, which go_on_waiting ends, or was killed, which ends the socket. */
 static bool hear(struct reply *r)
 {
+	/* A message of another size is not the server's: then the run cannot go on. */
 	ssize_t n;
 	do
 		n = recv(server, r, sizeof *r, 0);
@@ -55,6 +59,8 @@ static bool hear(struct reply *r)
 	return n == sizeof *r;
 }
 
+/* Each wake of the server costs more than an event, so several share one. Whoever takes the lock
+   reads them earlier. */
 static unsigned waiting_events; /* for which the server was not woken yet */
 static long long waiting_since;
 
@@ -68,7 +74,8 @@ static bool tell(const struct question *q, size_t size)
 	return n == (ssize_t)size;
 }
 
-/* Without an answer the caller gets the one that allows nothing. */
+/* Without an answer the caller gets the one that allows nothing. Before the server answers, it
+   takes all events that were put. */
 static struct reply ask(struct question *q, const char *group)
 {
 	struct reply r;
@@ -81,6 +88,8 @@ static struct reply ask(struct question *q, const char *group)
 	return (struct reply){ .fault = -EAGAIN };
 }
 
+/* The caller's thread stays at its stop until the answer, and so does every other thread that is
+   at a stop by then. */
 int link_reserve(pid_t parent, const char *group, bool is_thread, unsigned *reservation)
 {
 	struct reply r = ask(&(struct question){ .what = RESERVE, .reserve = { parent, is_thread } }, group);
@@ -88,6 +97,7 @@ int link_reserve(pid_t parent, const char *group, bool is_thread, unsigned *rese
 	return r.fault;
 }
 
+/* The child stays at its first stop meanwhile. */
 int link_born(unsigned reservation, pid_t child, bool *frozen)
 {
 	struct reply r = ask(&(struct question){ .what = BORN, .born = { reservation, child } }, NULL);
@@ -100,7 +110,8 @@ void link_cancel(unsigned reservation)
 	(void)ask(&(struct question){ .what = CANCEL, .cancel = { reservation } }, NULL);
 }
 
-/* Until the server has taken all events. */
+/* Until the server has taken all events. It is one of the few waits of the supervisor, and is
+   bounded as `hear` is. */
 static void wait_for_server(void)
 {
 	(void)ask(&(struct question){ .what = CATCH_UP }, NULL);
@@ -120,6 +131,8 @@ static void put_event(unsigned reservation, pid_t thread)
 		wait_for_server();
 	if (waiting_events == 0)
 		waiting_since = milliseconds();
+	/* The server reads them without a wake when it next has the lock. This wakes a server that has
+	   nothing else to do. */
 	if (++waiting_events == MUCH)
 		wake_server();
 }
@@ -129,6 +142,7 @@ void link_thread_born(unsigned reservation, pid_t thread)
 	put_event(reservation, thread);
 }
 
+/* As an end of a process, but no number is held: nobody sends a signal to a thread. */
 void link_thread_ended(pid_t thread)
 {
 	put_event(0, thread);
@@ -150,11 +164,13 @@ int link_wake_late(void)
 	return waiting_events > 0 ? LATE : -1;
 }
 
+/* The answer says nothing. It is waited for, so that the next question finds this one handled. */
 void link_stopped(pid_t pid, bool stopped)
 {
 	(void)ask(&(struct question){ .what = STOPPED, .stopped = { pid, stopped } }, NULL);
 }
 
+/* The server may be asked again at once: each answer is one order. */
 bool link_order(pid_t *pid, bool *stop)
 {
 	struct reply r = ask(&(struct question){ .what = ORDER }, NULL);
@@ -168,6 +184,7 @@ int link_prepare(unsigned call, pid_t process, const char *group)
 	return ask(&(struct question){ .what = PREPARE, .prepare = { call, process } }, group).fault;
 }
 
+/* It takes what link_prepare has noted, or drops it. */
 void link_namespace(unsigned number, unsigned call)
 {
 	(void)ask(&(struct question){ .what = NAMESPACE, .made = { call, number } }, NULL);

@@ -5,7 +5,8 @@
 #include <stdbool.h>
 #include <sys/types.h>
 
-/* A pair of ends; false if it cannot be made. */
+/* A pair of ends; false if it cannot be made. Before the server starts: the supervisor keeps
+   ends[0]. */
 bool link_make(int ends[2]);
 /* The supervisor's side; `process` is the server. */
 void link_use(int end, pid_t process);

@@ -8,18 +8,21 @@
 #include <sys/uio.h>
 #include <unistd.h>
 
+/* One request for all registers. It fails with ESRCH if the thread is not at a stop. */
 static bool write_all(pid_t thread, const struct user_regs_struct *regs)
 {
 	struct iovec all = { (void *)(size_t)regs, sizeof *regs };
 	return ptrace(PTRACE_SETREGSET, thread, NT_PRSTATUS, &all) == 0;
 }
 
+/* ESRCH: the thread is not at a stop, or has ended. */
 bool registers_read(pid_t thread, struct registers *out)
 {
 	struct iovec all = { &out->kernel, sizeof out->kernel };
 	return ptrace(PTRACE_GETREGSET, thread, NT_PRSTATUS, &all) == 0;
 }
 
+/* All of them, since the call has no result yet. */
 bool registers_restore_in(pid_t thread, const struct registers *before)
 {
 	return write_all(thread, &before->kernel);
@@ -27,6 +30,7 @@ bool registers_restore_in(pid_t thread, const struct registers *before)
 
 #if defined(__x86_64__)
 
+/* The sixth argument of a system call. */
 unsigned long registers_ticket(const struct registers *r)
 {
 	return r->kernel.r9;
@@ -63,12 +67,14 @@ bool registers_set_call(pid_t thread, const struct registers *before, long numbe
 	return write_call(thread, before, (unsigned long)number, args);
 }
 
+/* One register by itself. */
 bool registers_set_ticket(pid_t thread, const struct registers *before, unsigned long ticket)
 {
 	(void)before;
 	return ptrace(PTRACE_POKEUSER, thread, offsetof(struct user_regs_struct, r9), ticket) == 0;
 }
 
+/* The third argument. */
 bool registers_set_third(pid_t thread, unsigned long value)
 {
 	return ptrace(PTRACE_POKEUSER, thread, offsetof(struct user_regs_struct, rdx), value) == 0;
@@ -78,23 +84,28 @@ bool registers_restore(pid_t thread, const struct registers *now, const struct r
 {
 	struct clone_registers args;
 	registers_of_clone(before, &args);
+	/* What the call has written elsewhere stays, its result too. A restarted call reads its number
+	   from orig_rax. */
 	return write_call(thread, now, before->kernel.orig_rax, &args);
 }
 
 bool registers_return(pid_t thread, const struct registers *before, int result)
 {
 	struct user_regs_struct k = before->kernel;
+	/* -1 is no call: the kernel skips it and returns what is in rax. */
 	k.orig_rax = (unsigned long)-1L;
 	k.rax = (unsigned long)(long)result;
 	return write_all(thread, &k);
 }
 
+/* orig_rax is -1 outside of a call. */
 bool registers_was_interrupted(const struct registers *r, long *call)
 {
 	*call = (long)r->kernel.orig_rax;
 	return *call >= 0 && (long)r->kernel.rax == -EINTR;
 }
 
+/* rax has the number of the call before it, and its result after it. */
 bool registers_set_result(pid_t thread, long result)
 {
 	return ptrace(PTRACE_POKEUSER, thread, offsetof(struct user_regs_struct, rax), result) == 0;
@@ -102,12 +113,14 @@ bool registers_set_result(pid_t thread, long result)
 
 #elif defined(__aarch64__)
 
+/* Here the number of the call is no register, and has a request of its own. */
 static bool set_number(pid_t thread, int number)
 {
 	struct iovec it = { &number, sizeof number };
 	return ptrace(PTRACE_SETREGSET, thread, NT_ARM_SYSTEM_CALL, &it) == 0;
 }
 
+/* The sixth argument is in the register x5. */
 unsigned long registers_ticket(const struct registers *r)
 {
 	return r->kernel.regs[5];
@@ -118,12 +131,14 @@ unsigned long registers_stack(const struct registers *r)
 	return r->kernel.sp;
 }
 
+/* Here `tls` comes before `child_tid`. */
 void registers_of_clone(const struct registers *r, struct clone_registers *out)
 {
 	const unsigned long long *x = r->kernel.regs;
 	*out = (struct clone_registers){ x[0], x[1], x[2], x[4], x[3], x[5] };
 }
 
+/* The number of the call has a request of its own. */
 bool registers_set_call(pid_t thread, const struct registers *before, long number, const struct clone_registers *args)
 {
 	struct user_regs_struct k = before->kernel;
@@ -161,6 +176,7 @@ bool registers_restore(pid_t thread, const struct registers *now, const struct r
 	return write_all(thread, &k);
 }
 
+/* The number -1 skips the call. */
 bool registers_return(pid_t thread, const struct registers *before, int result)
 {
 	struct user_regs_struct k = before->kernel;
@@ -196,6 +212,7 @@ enum { LARGEST = 4096, PID_SPACES = 32 };
 #define CLONE_NEWTIME 0x00000080
 #endif
 
+/* E2BIG and EINVAL are the kernel's for these sizes. */
 int registers_check_clone_size(size_t size)
 {
 	if (size > LARGEST)
@@ -206,6 +223,8 @@ int registers_check_clone_size(size_t size)
 	return size > CLONE_ARGS_SIZE_VER2 ? -ENOSYS : 0;
 }
 
+/* The kernel's own checks, in clone3: what it would refuse must fail with EINVAL also here, and
+   not with what `clone` says of it. */
 static bool is_valid(const struct clone_args *a, size_t size)
 {
 	const __u64 known = 0xffffffffULL | CLONE_CLEAR_SIGHAND | CLONE_INTO_CGROUP;
@@ -226,6 +245,7 @@ static bool is_valid(const struct clone_args *a, size_t size)
 	return (a->stack == 0) == (a->stack_size == 0) && a->stack <= LONG_MAX && a->stack_size <= LONG_MAX - a->stack;
 }
 
+/* C libraries answer ENOSYS with a `clone`, which is then judged by itself. */
 int registers_fit_clone(const struct clone_args *a, size_t size, struct clone_registers *out)
 {
 	const __u64 beyond = CLONE_CLEAR_SIGHAND | CLONE_NEWTIME;
@@ -235,6 +255,7 @@ int registers_fit_clone(const struct clone_args *a, size_t size, struct clone_re
 	if (a->flags & beyond || a->set_tid_size || a->set_tid ||
 		((a->flags & CLONE_PIDFD) && (a->flags & CLONE_PARENT_SETTID)))
 		return -ENOSYS;
+	/* `clone` takes the signal with the flags, and the upper end of the stack. */
 	*out = (struct clone_registers){
 		.flags = (a->flags & ~CLONE_INTO_CGROUP) | a->exit_signal,
 		.stack = a->stack + a->stack_size,

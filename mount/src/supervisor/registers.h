@@ -9,6 +9,7 @@
 #include <sys/types.h>
 #include <sys/user.h>
 
+/* All registers of the machine, as the kernel gives them at a stop. */
 struct registers {
 	struct user_regs_struct kernel;
 };
@@ -19,7 +20,7 @@ struct clone_registers {
 	unsigned long flags, stack, parent_tid, child_tid, tls, ticket;
 };
 
-/* False if the thread is no longer stopped. */
+/* False if the thread is no longer stopped. Each of these fails alike, with ESRCH. */
 bool registers_read(pid_t thread, struct registers *out);
 unsigned long registers_ticket(const struct registers *r);
 unsigned long registers_stack(const struct registers *r);

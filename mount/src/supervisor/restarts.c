@@ -4,11 +4,12 @@
 #include <signal.h>
 #include <sys/syscall.h>
 
-/* The kernel's own number, between the end of a call and the return to the program: if a handler runs, the call returns
-   EINTR, and else it begins again. */
+/* The kernel's own number, between the end of a call and the return to the program: if a handler
+   runs, the call returns EINTR, and else it begins again. The program never sees it. */
 enum { ERESTARTNOHAND = 514 };
 
-/* The calls that the kernel ends with EINTR, not with a number of its own, and that have done nothing then. */
+/* The calls that the kernel ends with EINTR, not with a number of its own, and that have done
+   nothing then. */
 static bool may_begin_again(long call)
 {
 	switch (call) {

@@ -11,10 +11,12 @@
    that signals both processes may be, on a busy machine. */
 enum { AT_ONCE = 16, PAUSE = 100, TOGETHER = 5000 };
 
+/* A signalfd: signals come by a read and interrupt nothing, so no handler runs at any moment. */
 static int received = -1;
 
-/* Those of faults may be makhloeum's own: they are ignored if another process sends them. SIGPIPE and SIGXFSZ come with its own
-   writes. */
+/* Those of faults may be makhloeum's own: they are ignored if another process sends them. SIGPIPE
+   and SIGXFSZ come with its own writes. SIGKILL and SIGSTOP cannot be received. SIGCHLD is the
+   supervisor's own. */
 static bool is_for_program(int signal)
 {
 	switch (signal) {
@@ -50,6 +52,8 @@ int signals_receive(void)
 	for (int signal = 1; signal < SIGSYS; signal++)
 		if (is_for_program(signal))
 			sigaddset(&held, signal);
+	/* A blocked signal is queued even if its action is to be ignored, so the descriptor receives
+	   those that are held. All others are dropped. */
 	own_processes_ignore_signals();
 	sigprocmask(SIG_SETMASK, &held, NULL);
 	received = signalfd(-1, &held, SFD_CLOEXEC | SFD_NONBLOCK);
@@ -67,20 +71,21 @@ struct sender {
    so it is not to reach the program. */
 enum passing { NOTHING, SENT, CAME, TOO_LATE };
 
-/* Of each signal: the sender of the one that waits to be passed on; of the last that the program got directly; and of the last that
-   was passed on. */
+/* Of each signal: the sender of the one that waits to be passed on; of the last that the program
+   got directly; and of the last that was passed on. The supervisor's only thread uses it. */
 static struct {
 	struct sender waiting, direct, passed;
 	enum passing state;
 } of[SIGSYS];
 static unsigned waiting; /* a bit for each signal */
 
+/* The code tells `kill` from `sigqueue` and from a timer. */
 static bool is_same(const struct sender *a, const struct sender *b)
 {
 	return a->process == b->process && a->code == b->code;
 }
 
-/* Each is one half of one pair. */
+/* Each is one half of one pair. A pair is used up: the next signal of that sender is a new one. */
 static bool take(struct sender *one, const struct sender *other)
 {
 	bool same = is_same(one, other) && milliseconds() < one->until;
@@ -116,7 +121,8 @@ static unsigned bit(int signal)
 	return 1U << signal;
 }
 
-/* As in the kernel, SIGCONT and the signals that stop a process end each other. */
+/* As in the kernel, SIGCONT and the signals that stop a process end each other. A signal that
+   waits already is replaced: as in the kernel, only one of each waits. */
 static void keep(const struct signalfd_siginfo *one)
 {
 	static const unsigned stops = 1U << SIGTSTP | 1U << SIGTTIN | 1U << SIGTTOU;
@@ -131,7 +137,9 @@ static void keep(const struct signalfd_siginfo *one)
 
 void signals_hear(pid_t program)
 {
+	/* It never waits. What is left over comes with the next turn. */
 	struct signalfd_siginfo some[AT_ONCE];
+	/* NULL once the program has ended. */
 	const struct thread *first = threads_find(program);
 	ssize_t size = read(received, some, sizeof some);
 	for (int i = 0; size > 0 && i < (int)((size_t)size / sizeof *some); i++)
@@ -185,6 +193,8 @@ static bool is_second(int signal, const struct sender *from)
 	return false;
 }
 
+/* The copy that was passed on has reached the program. If the direct one came before it, the
+   program has had the signal. */
 static bool is_first(int signal)
 {
 	bool first = of[signal].state != TOO_LATE;
@@ -199,6 +209,7 @@ int signals_once(pid_t thread, int signal)
 	if (!is_for_program(signal) || ptrace(PTRACE_GETSIGINFO, thread, 0, &info))
 		return signal;
 	struct sender from = { info.si_pid, info.si_code, 0 };
+	/* Only signals_pass_on sends such a signal to the program, by kill. */
 	bool was_passed_on = from.process == getpid() && from.code == SI_USER;
 	return (was_passed_on ? is_first(signal) : !is_second(signal, &from)) ? signal : 0;
 }

@@ -6,7 +6,8 @@
 #include <stdbool.h>
 #include <sys/types.h>
 
-/* From now on the descriptor receives SIGCHLD and the signals that are passed on, and all others are ignored; -1. */
+/* From now on the descriptor receives SIGCHLD and the signals that are passed on, and all others
+   are ignored; -1. The descriptor never blocks. */
 int signals_receive(void);
 /* Takes what has come. A process of the run is known while its end has not been handled, so this is called before. */
 void signals_hear(pid_t program);

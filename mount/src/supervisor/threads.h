@@ -8,12 +8,14 @@
 
 struct birth;
 
-/* Why a thread does not run: kept at a stop of its whole process or after a vfork, or before a call; stopped by a signal; waiting
-   for the child that it made by vfork. */
+/* Why a thread does not run: kept at a stop of its whole process or after a vfork, or before a
+   call; stopped by a signal; waiting for the child that it made by vfork. All but RUNS count for
+   `resting` of the first thread. */
 enum rest { RUNS, PARKED, BEFORE_CALL, LISTENS, VFORKS };
 
 struct thread {
 	struct thread *next, *before;
+	/* Numbers of the supervisor's PID namespace. They are equal for the first thread of a process. */
 	pid_t id, process;
 	bool started; /* it has left its first stop */
 	bool counted; /* a process or thread that the hierarchy knows */

@@ -4,10 +4,14 @@
 #include <string.h>
 #include <sys/ptrace.h>
 
-/* Which stops there are. An execve changes something here only if the first thread of a process does not call it. */
+/* Which stops there are. An execve changes something here only if the first thread of a process
+   does not call it. EXITKILL: if the supervisor is killed, the kernel kills all that it traces, so
+   nothing runs uncounted. TRACESYSGOOD marks a stop at a call, which else looks like a SIGTRAP. */
 static const long always = PTRACE_O_TRACEFORK | PTRACE_O_TRACEVFORK | PTRACE_O_TRACECLONE | PTRACE_O_TRACEVFORKDONE |
 	PTRACE_O_TRACESECCOMP | PTRACE_O_TRACESYSGOOD | PTRACE_O_EXITKILL;
 
+/* SEIZE sends no signal: the program does not notice it. It also tells stops of job control from
+   others. */
 bool tracee_attach(pid_t process)
 {
 	return ptrace(PTRACE_SEIZE, process, 0, always) == 0;
@@ -22,6 +26,7 @@ static void resume(enum __ptrace_request how, pid_t thread, int signal)
 		say("a thread cannot go on: %s", strerror(errno));
 }
 
+/* PTRACE_SYSCALL stops a thread in strict mode before its next call, which is judged there. */
 void tracee_run(pid_t thread, int signal)
 {
 	const struct thread *t = threads_find(thread);
@@ -50,22 +55,26 @@ void tracee_restore(pid_t thread, const struct registers *now, const struct regi
 	(void)registers_restore(thread, now, before); /* as above */
 }
 
+/* The kernel gives these options to all that the thread makes. */
 void tracee_stop_at_exec(struct thread *t)
 {
 	if (!t->stops_at_exec && ptrace(PTRACE_SETOPTIONS, t->id, 0, always | PTRACE_O_TRACEEXEC) == 0)
 		t->stops_at_exec = true;
 }
 
+/* LISTEN leaves it stopped, and reports its SIGCONT as a stop. */
 void tracee_listen(pid_t thread)
 {
 	resume(PTRACE_LISTEN, thread, 0);
 }
 
+/* It returns at once. The thread comes to a stop when it is next scheduled. */
 void tracee_interrupt(pid_t thread)
 {
 	resume(PTRACE_INTERRUPT, thread, 0);
 }
 
+/* The number is of this process's namespace. */
 pid_t tracee_message(pid_t thread)
 {
 	unsigned long number = 0;

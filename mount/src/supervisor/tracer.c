@@ -1,34 +1,28 @@
 #include "supervisor/tracer.h"
-#include "channels/roots.h"
-#include "common/namespaces.h"
 #include "common/own_processes.h"
-#include "helper/helper.h"
 #include "supervisor/births.h"
-#include "supervisor/filter.h"
+#include "supervisor/calls.h"
 #include "supervisor/frozen_threads.h"
 #include "supervisor/link.h"
-#include "supervisor/registers.h"
 #include "supervisor/restarts.h"
 #include "supervisor/signals.h"
 #include "supervisor/threads.h"
 #include "supervisor/tracee.h"
 #include <errno.h>
-#include <sched.h>
 #include <signal.h>
-#include <stddef.h>
-#include <stdlib.h>
 #include <sys/ptrace.h>
-#include <sys/syscall.h>
 #include <sys/wait.h>
 #include <unistd.h>
 
 /* At most STOPS are taken at once, before any of them is answered: no thread is handled twice while another waits. */
 enum { STOPS = 1024, PATIENCE = 2000 };
 
+/* The first process of the run: its end is the end of the run. */
 static pid_t program;
 static int program_status;
 static bool program_ended;
 
+/* births_first fails without an errno, for lack of memory or of an answer: then it is EAGAIN. */
 bool tracer_hold(pid_t pid)
 {
 	program = pid;
@@ -40,127 +34,6 @@ bool tracer_hold(pid_t pid)
 
 /* ---------------------------------------------------------------- stops */
 
-/* What the server knows the call by; births have small numbers. */
-static unsigned unshare_of(const struct thread *t)
-{
-	return ~(unsigned)t->id;
-}
-
-/* The program has no tracer but this one, so its filter sends a call to nobody: then the kernel does not make the call. */
-static void refuse(struct thread *t, int error)
-{
-	struct registers before;
-	if (registers_read(t->id, &before)) /* else it was killed */
-		tracee_return(t->id, &before, -error);
-}
-
-/* The server notes the namespace's root before the call, which begins at the process's group as it is now. It hears of the number of
-   the namespace after the call. */
-static void on_unshare(struct thread *t, unsigned long flags)
-{
-	if (flags & CLONE_NEWNS)
-		roots_change();
-	if (!(flags & CLONE_NEWCGROUP)) {
-		tracee_run(t->id, 0);
-		return;
-	}
-	int fault = link_prepare(unshare_of(t), t->process, NULL);
-	if (fault) {
-		refuse(t, -fault);
-		return;
-	}
-	t->unshares = true;
-	tracee_run_call(t->id);
-}
-
-static void on_root(struct thread *t)
-{
-	roots_change();
-	tracee_run(t->id, 0);
-}
-
-static void return_from_strict(struct thread *t, int result)
-{
-	struct registers before;
-	t->asks_strict = false;
-	t->strict = result == 0;
-	if (registers_read(t->id, &before)) /* else it was killed */
-		tracee_return(t->id, &before, result);
-}
-
-/* The filter is in the program's memory, which the helper reads and writes. */
-static void on_new_filter(struct thread *t, unsigned long at)
-{
-	struct registers before;
-	if (!registers_read(t->id, &before))
-		return; /* it was killed */
-	t->asks_filter = helper_copy_filter(t->id, at, registers_stack(&before));
-	t->filter_at = at;
-	if (!t->asks_filter)
-		tracee_run(t->id, 0);
-}
-
-/* The call's argument is restored after it. */
-static void add_filter(struct thread *t, unsigned long copy)
-{
-	t->asks_filter = false;
-	t->adds_filter = copy && registers_set_third(t->id, copy);
-	if (t->adds_filter)
-		tracee_run_call(t->id);
-	else
-		tracee_run(t->id, 0);
-}
-
-/* How many filters the thread has is said by a file of /proc, which the helper reads. */
-static void on_seccomp(struct thread *t, long number, const uint64_t args[6])
-{
-	int fault = filter_wants_strict(number, args);
-	if (filter_is_added(number, args))
-		on_new_filter(t, args[2]);
-	else if (fault > 0)
-		tracee_run(t->id, 0);
-	else if (fault < 0)
-		refuse(t, -fault);
-	else if (helper_count_filters(t->id))
-		t->asks_strict = true;
-	else
-		return_from_strict(t, filter_strict_result(-1));
-}
-
-void tracer_filters(const struct helper_reply *reply)
-{
-	struct thread *t = threads_find(reply->thread); /* one that asks for nothing was killed meanwhile */
-	if (t && t->asks_strict)
-		return_from_strict(t, filter_strict_result(reply->filters));
-	else if (t && t->asks_filter)
-		add_filter(t, reply->copy);
-}
-
-/* The stop was taken a while ago. Meanwhile the thread may have been killed, and another that called execve may have its
-   number and be at another stop. So the kernel is asked at which stop it is now. */
-static void on_call(struct thread *t)
-{
-	struct __ptrace_syscall_info call;
-	if (ptrace(PTRACE_GET_SYSCALL_INFO, t->id, sizeof call, &call) <= 0)
-		return; /* it was killed */
-	if (call.op != PTRACE_SYSCALL_INFO_SECCOMP || frozen_threads_keeps(t, BEFORE_CALL))
-		return;
-	long number = (long)call.seccomp.nr;
-	bool is_ours = call.seccomp.ret_data == FILTER_MARK;
-	if (!is_ours || !filter_stops(number, call.seccomp.args)) /* a filter of the program wants it */
-		refuse(t, ENOSYS);
-	else if (births_is_fork(number))
-		births_ask(t, number);
-	else if (number == SYS_unshare)
-		on_unshare(t, call.seccomp.args[0]);
-	else if (number == SYS_setns || number == SYS_chroot || number == SYS_pivot_root)
-		on_root(t);
-	else if (number == SYS_prctl || number == SYS_seccomp)
-		on_seccomp(t, number, call.seccomp.args);
-	else /* waitid or wait4: every death before this stop has been handled, so the caller sees it */
-		tracee_run(t->id, 0);
-}
-
 static void on_birth(struct thread *t, bool waits)
 {
 	pid_t child = tracee_message(t->id);
@@ -171,7 +44,7 @@ static void on_birth(struct thread *t, bool waits)
 		frozen_threads_vforks(t);
 }
 
-/* Its number does. */
+/* Its number does. A thread that the hierarchy does not know leaves nothing there. */
 static void leaves(const struct thread *t)
 {
 	if (t->counted && t->id == t->process)
@@ -224,27 +97,6 @@ static void on_pause(pid_t id, int signal)
 		tracee_run(id, 0);
 }
 
-/* The stop after a call, or before one of a thread in strict mode. A call that failed has made no namespace. */
-static void at_call(struct thread *t)
-{
-	struct __ptrace_syscall_info call;
-	if (ptrace(PTRACE_GET_SYSCALL_INFO, t->id, sizeof call, &call) <= 0)
-		return; /* it was killed */
-	if (t->strict && call.op == PTRACE_SYSCALL_INFO_ENTRY && !filter_strict_allows((long)call.entry.nr)) {
-		kill(t->process, SIGKILL); /* it cannot fail: the process is not waited for before this thread */
-		return;
-	}
-	births_returned(t);
-	if (t->adds_filter)
-		(void)registers_set_third(t->id, t->filter_at); /* it fails only if the thread was killed */
-	t->adds_filter = false;
-	if (t->unshares)
-		link_namespace(call.op == PTRACE_SYSCALL_INFO_EXIT && !call.exit.is_error ? namespaces_cgroup_of(t->id) : 0,
-			unshare_of(t));
-	t->unshares = false;
-	tracee_run(t->id, 0);
-}
-
 static bool is_vfork(int status)
 {
 	return status >> 8 == PTRACE_EVENT_VFORK;
@@ -263,7 +115,7 @@ static void on_stop_of(pid_t id, struct thread *t, int status)
 	}
 	switch (event) {
 	case PTRACE_EVENT_SECCOMP:
-		on_call(t);
+		calls_before(t);
 		return;
 	case PTRACE_EVENT_FORK:
 	case PTRACE_EVENT_VFORK:
@@ -278,7 +130,7 @@ static void on_stop_of(pid_t id, struct thread *t, int status)
 		return;
 	}
 	if (status == (SIGTRAP | 0x80))
-		at_call(t);
+		calls_after(t);
 	else {
 		restarts_call(t, signal);
 		tracee_run(id, t->process == program ? signals_once(id, signal) : signal);
@@ -318,9 +170,11 @@ static void on_stop(const struct stop *stop)
 	/* the process has other threads now, or had some when the stop was taken */
 	if (!(stop->alone && is_alone(id)) && !stands_there(id, stop->status))
 		return;
+	/* It rests no longer. What is done about the stop may let it rest again. */
 	if (t)
 		frozen_threads_moves(t);
 	on_stop_of(id, t, stop->status);
+	/* It may have been dropped, or was never known. */
 	if (!(t = threads_find(id)))
 		return;
 	frozen_threads_insists(t);
@@ -335,8 +189,7 @@ static void on_end(pid_t id)
 		return;
 	pid_t process = t->process;
 	leaves(t);
-	if (t->unshares)
-		link_namespace(0, unshare_of(t));
+	calls_abandon(t);
 	births_abandon(t);
 	frozen_threads_forget(t);
 	threads_drop(t);
@@ -345,9 +198,11 @@ static void on_end(pid_t id)
 
 /* ---------------------------------------------------------------- all of them */
 
+/* Used only within tracer_look, which is not called from itself. It is too large for a stack. */
 static struct stop stops[STOPS];
 
-/* Takes a stop. Returns 0 if there is none, 1 for one of the program, and -1 for one of makhloeum itself. */
+/* Takes a stop. Returns 0 if there is none, 1 for one of the program, and -1 for one of makhloeum
+   itself. It never waits here: the poll of watch_over does. */
 static int take_stop(size_t at)
 {
 	siginfo_t next;
@@ -362,8 +217,9 @@ static int take_stop(size_t at)
 	return 1;
 }
 
-/* Takes the next event. Returns 0 if there is none, 1 for a stop, and -1 for one that needs no answer. A death was reported
-   already. */
+/* Takes the next event. Returns 0 if there is none, 1 for a stop, and -1 for one that needs no
+   answer. A death was reported already. WNOWAIT: it looks first, and waits only for the end that
+   it has handled. */
 static int take_next(size_t at)
 {
 	siginfo_t next;
@@ -389,7 +245,8 @@ static int take_next(size_t at)
 	return -1;
 }
 
-/* A creator by vfork waits for its child, so the child is answered first. */
+/* A creator by vfork waits for its child, so the child is answered first. So the child, whose
+   first stop may be among these, has been handled before the parent's event of it. */
 bool tracer_look(void)
 {
 	int taken = take_stop(0); /* most events are stops */
@@ -407,7 +264,7 @@ bool tracer_look(void)
 
 bool tracer_obey(void)
 {
-	return frozen_threads_take_orders(on_call);
+	return frozen_threads_take_orders(calls_before);
 }
 
 bool tracer_has_ended(int *status)
@@ -416,6 +273,8 @@ bool tracer_has_ended(int *status)
 	return program_ended;
 }
 
+/* A thread that is killed may still be making a child, which is killed in the next round. What has
+   not ended after PATIENCE rounds is killed by the kernel, when the tracer ends. */
 void tracer_end_rest(void)
 {
 	/* killed threads stop no more, and end in bounded time */

@@ -13,8 +13,6 @@
 #include <stdbool.h>
 #include <sys/types.h>
 
-struct helper_reply;
-
 /* Attaches to the program before it runs; false with errno. If the tracer dies, the kernel kills everything that is left.
     */
 bool tracer_hold(pid_t program);
@@ -23,8 +21,6 @@ bool tracer_hold(pid_t program);
 bool tracer_look(void);
 /* Stops and continues what the freezer says; true if it says more than was done. */
 bool tracer_obey(void);
-/* The answer of helper_count_filters or helper_copy_filter. */
-void tracer_filters(const struct helper_reply *reply);
 /* True once the program has ended, with its wait status. */
 bool tracer_has_ended(int *status);
 /* Kills everything that the program left behind. */

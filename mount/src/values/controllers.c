@@ -20,8 +20,11 @@ static const struct {
 	{ "pids", HAS_PIDS } };
 enum { NAMES = sizeof names / sizeof *names };
 
+/* The controllers of --keep. Set before the mount, and not changed afterwards. 0: controllers
+   can't be switched. */
 static unsigned kept;
 
+/* 0 for an unknown name. */
 static unsigned bit_of(const char *name, size_t size)
 {
 	for (size_t i = 0; i < NAMES; i++)
@@ -30,11 +33,13 @@ static unsigned bit_of(const char *name, size_t size)
 	return 0;
 }
 
+/* The part before each comma is one name. False leaves `kept` half read: the caller ends then. */
 bool controllers_keep(const char *said)
 {
 	do {
 		size_t size = strcspn(said, ",");
 		unsigned bit = bit_of(said, size);
+		/* pids is always there, and can't be kept. */
 		if (!(bit & ~(unsigned)HAS_PIDS))
 			return false;
 		kept |= bit;
@@ -50,12 +55,14 @@ unsigned controllers_kept(void)
 
 /* ---------------------------------------------------------------- what a group has */
 
+/* At first none is enabled. */
 static unsigned subtree_of(const char *group)
 {
 	const struct group_state *r = group_state_find(group);
 	return !kept ? HAS_PIDS : r ? r->subtree : 0;
 }
 
+/* A group has what its parent enables for its children; the root has all. */
 static unsigned available(const char *group)
 {
 	char above[PATH_MAX_SAID];
@@ -71,7 +78,8 @@ bool controllers_have(const char *group, const struct file *file)
 	return !file->controller || file->controller & available(group);
 }
 
-/* The text of a file of the engine, without zombies. 0 or -errno */
+/* The text of a file of the engine, without zombies. 0 or -errno. It is the engine's buffer, or
+   that of visible_processes: valid until the next look. */
 static int text_of(const char *group, const char *name, const char **text, size_t *size)
 {
 	int fault = engine_look("cat %s %s", group, name);
@@ -82,6 +90,7 @@ static int text_of(const char *group, const char *name, const char **text, size_
 }
 
 /* These questions, and those below, are answered by 1, 0 or -errno. */
+/* Zombies are left out: they are in no list of the kernel. */
 static int has_processes(const char *group)
 {
 	const char *text;
@@ -106,6 +115,7 @@ static int each_of(const char *group, const char *children, size_t count, int (*
 	int answer = 0;
 	for (; answer == 0 && count--; children += strlen(children) + 1) {
 		int n = snprintf(child, sizeof child, "%s/%s", is_root(group) ? "" : group, children);
+		/* A child's path always fits: the engine refuses longer ones. */
 		if (n > 0 && (size_t)n < sizeof child)
 			answer = ask(child, which);
 	}
@@ -126,6 +136,7 @@ static int ask_populated(const char *child, unsigned unused)
 	return is_populated(child);
 }
 
+/* Whether the child passes any of these controllers on to its own children. */
 static int ask_shares(const char *child, unsigned which)
 {
 	return (subtree_of(child) & which) != 0;
@@ -141,6 +152,8 @@ static int is_thread_root(const char *group)
 	return is_root(group) || !(subtree_of(group) & FOR_THREADS) ? 0 : has_processes(group);
 }
 
+/* The root always can. Another group can while it enables only controllers for threads and no
+   child is populated. */
 static int can_be_thread_root(const char *group)
 {
 	if (is_root(group) || subtree_of(group) & ~(unsigned)FOR_THREADS)
@@ -149,6 +162,7 @@ static int can_be_thread_root(const char *group)
 	return populated < 0 ? populated : !populated;
 }
 
+/* Below the root of a threaded subtree no group is one. */
 static int is_domain(const char *group)
 {
 	char at[PATH_MAX_SAID];
@@ -163,15 +177,20 @@ static int is_domain(const char *group)
 
 int controllers_may_enter(const char *group)
 {
+	/* Without --keep any group may have processes, whatever is below it. */
 	if (!kept)
 		return 0;
 	int domain = is_domain(group);
 	if (domain <= 0)
 		return domain ? domain : -EOPNOTSUPP;
+	/* EBUSY is the kernel's for the rule that a group with processes has no controllers for its
+	   children. */
 	int can = subtree_of(group) ? can_be_thread_root(group) : 1;
 	return can < 0 ? can : can ? 0 : -EBUSY;
 }
 
+/* 0 or the errno of the kernel, which checks in this order: the kind of the group, then its
+   processes. */
 static int may_enable(const char *group, unsigned which)
 {
 	if (!which)
@@ -202,6 +221,7 @@ static void show(unsigned which, char out[TEXT_ROOM])
 	snprintf(out + n, TEXT_ROOM - n, "%s", n ? "\n" : "");
 }
 
+/* What the group may enable for its children. */
 int controllers_show(const char *group, const struct file *file, char out[TEXT_ROOM])
 {
 	(void)file;
@@ -209,6 +229,7 @@ int controllers_show(const char *group, const struct file *file, char out[TEXT_R
 	return 0;
 }
 
+/* What it has enabled. */
 int subtree_show(const char *group, const struct file *file, char out[TEXT_ROOM])
 {
 	(void)file;
@@ -217,10 +238,12 @@ int subtree_show(const char *group, const struct file *file, char out[TEXT_ROOM]
 }
 
 /* Reads +NAME and -NAME with blanks between; the last mention of a name counts. */
+/* 0 or -EINVAL, for a word without a sign or of a controller that is not kept. */
 static int read_change(char *text, unsigned *enable, unsigned *disable)
 {
 	char *rest = text, *word;
 	*enable = *disable = 0;
+	/* Two blanks give an empty word. */
 	while ((word = strsep(&rest, " "))) {
 		if (!*word)
 			continue;
@@ -244,6 +267,7 @@ static int forget_in(const char *child, unsigned which)
 	return 0;
 }
 
+/* A limit that is `max` already needs no line. */
 static int lift_limit(const char *child, unsigned unused)
 {
 	uint64_t limit;
@@ -259,7 +283,7 @@ static int lift_limits(const char *group, const char *children, size_t count)
 	return fault ? fault : engine_finish(each_of(group, children, count, lift_limit, 0));
 }
 
-/* All that can fail comes first. */
+/* All that can fail comes first. Dropping values cannot fail. */
 static int set_subtree(const char *group, unsigned which, unsigned lost)
 {
 	const char *children = "";
@@ -276,6 +300,7 @@ static int set_subtree(const char *group, unsigned which, unsigned lost)
 }
 
 /* The first controller, in the kernel's order, that cannot be changed decides the errno. */
+/* ENOENT: the group lacks the controller. EBUSY: a child passes it on. */
 static int may_change(const char *group, unsigned enable, unsigned disable)
 {
 	int shares = 0;
@@ -290,6 +315,7 @@ static int may_change(const char *group, unsigned enable, unsigned disable)
 	return may_enable(group, enable);
 }
 
+/* What is so already is no change, and can't be refused. */
 static int change(const char *group, unsigned enable, unsigned disable)
 {
 	unsigned now = subtree_of(group);
@@ -305,6 +331,7 @@ static int take_unchanged(const char *text, const char *unchanged)
 	return !*text || strcmp(text, unchanged) == 0 ? 0 : -EOPNOTSUPP;
 }
 
+/* A write changes all that it names, or nothing. */
 int subtree_write(const char *group, const struct file *file, const char *data, size_t size)
 {
 	char text[TEXT_ROOM + 1];
@@ -315,6 +342,7 @@ int subtree_write(const char *group, const struct file *file, const char *data, 
 	memcpy(text, data, size);
 	text[size] = 0;
 	char *said = strip_spaces(text);
+	/* Without --keep every group has pids, and a program may say so. */
 	if (!kept)
 		return take_unchanged(said, "+pids");
 	int fault = read_change(said, &enable, &disable);
@@ -323,10 +351,12 @@ int subtree_write(const char *group, const struct file *file, const char *data, 
 
 /* ---------------------------------------------------------------- cgroup.type */
 
+/* Without --keep every group is a domain. */
 static int type_of(const char *group, const char **type)
 {
 	int domain = kept ? is_domain(group) : 1;
 	int inner = kept && domain > 0 ? is_thread_root(group) : 0;
+	/* An errno leaves the text unused. */
 	*type = !domain ? "domain invalid" : inner ? "domain threaded" : "domain";
 	return domain < 0 ? domain : inner < 0 ? inner : 0;
 }

@@ -7,6 +7,7 @@
 #include "values/files.h"
 
 /* In the kernel's order. */
+/* Bits: a set of controllers is an unsigned number. */
 enum { HAS_CPUSET = 1, HAS_CPU = 2, HAS_IO = 4, HAS_MEMORY = 8, HAS_PIDS = 16 };
 
 /* Reads the names of --keep, with commas between; false if one of them is unknown. */

@@ -40,13 +40,16 @@ static const struct file files[] = {
 
 enum { FILES = sizeof files / sizeof *files };
 
+/* Set before the mount, and not changed afterwards. */
 static bool with_extra;
 
+/* With --extra or --keep. */
 void files_use_extra(void)
 {
 	with_extra = true;
 }
 
+/* A file of a controller that is not kept exists nowhere. */
 static bool is_there(const struct file *f)
 {
 	return (!f->extra || with_extra) && (!f->controller || f->controller & (controllers_kept() | HAS_PIDS));
@@ -58,6 +61,7 @@ static const struct file *entry(size_t i)
 	return i < FILES ? &files[i] : i - FILES < values_count ? &values_files[i - FILES] : NULL;
 }
 
+/* The place counts all files, whichever exist: it is part of a file's inode number (nodes.c). */
 size_t file_place(const struct file *file)
 {
 	size_t i = 0;
@@ -71,6 +75,7 @@ const struct file *file_in_place(size_t i)
 	return entry(i);
 }
 
+/* In the order of a listing. */
 const struct file *file_at(size_t i)
 {
 	const struct file *f;
@@ -80,6 +85,7 @@ const struct file *file_at(size_t i)
 	return f;
 }
 
+/* `on_root`: whether the group is the root, which lacks some files. */
 const struct file *file_named(const char *name, bool on_root)
 {
 	const struct file *f;
@@ -92,6 +98,7 @@ const struct file *file_named(const char *name, bool on_root)
 	return NULL;
 }
 
+/* The modes of the kernel's own files. Writing is the owner's, whom the mount doesn't check. */
 mode_t file_mode(const struct file *file)
 {
 	return (file->readable ? 0444 : 0) | (file->value != NOTHING ? 0200 : 0);

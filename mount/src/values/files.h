@@ -7,10 +7,11 @@
 #include <stddef.h>
 #include <sys/types.h>
 
-/* The longest text of a file that the engine does not have. */
+/* The longest text of a file that the engine does not have. It is a page, as in the kernel. */
 enum { TEXT_ROOM = 4096 };
 
 struct file {
+	/* As in a listing, with the name of its controller before the dot. */
 	const char *name;
 	bool on_root, readable, extra; /* extra: exists only with --extra */
 	enum value value; /* WRITES: `write` handles it */

@@ -3,11 +3,13 @@
 #include <stdio.h>
 #include <string.h>
 
+/* False beyond the last number. */
 static bool has(const struct number_ranges *l, unsigned n)
 {
 	return n < NUMBER_RANGES_MAX && l->bits[n / 8] & (1U << n % 8);
 }
 
+/* As the kernel's isspace: line feeds separate too. */
 static bool is_blank(char c)
 {
 	return c == ' ' || (c >= '\t' && c <= '\r');
@@ -15,12 +17,13 @@ static bool is_blank(char c)
 
 /* ---------------------------------------------------------------- reading */
 
-/* FIRST-LAST:USED/OF, of which all but the first may be missing: of each OF numbers the first USED. */
+/* FIRST-LAST:USED/OF, of which all but the first may be missing: of each OF numbers the first
+   USED. The kernel's own name for it. */
 struct region {
 	unsigned first, last, used, of;
 };
 
-/* A number; N is the last possible one. NULL: not a number. */
+/* A number; N is the last possible one. NULL: not a number. `fault` becomes -EINVAL or -EOVERFLOW. */
 static const char *take_number(const char *at, unsigned bits, unsigned *out, int *fault)
 {
 	if (*at == 'N') {
@@ -38,11 +41,13 @@ static const char *take_number(const char *at, unsigned bits, unsigned *out, int
 	return *fault ? NULL : at;
 }
 
+/* A region ends at a comma, a blank or the end of the text. */
 static bool is_end(char c)
 {
 	return c == 0 || c == ',' || is_blank(c);
 }
 
+/* As the kernel reads one, with the same errnos. */
 static const char *take_region(const char *at, unsigned bits, struct region *r, int *fault)
 {
 	bool is_all = strncmp(at, "all", 3) == 0;
@@ -71,6 +76,7 @@ static const char *take_region(const char *at, unsigned bits, struct region *r, 
 	return *fault ? NULL : at;
 }
 
+/* The order of these two checks decides the errno, as in the kernel. */
 static int add_region(const struct region *r, unsigned bits, struct number_ranges *out)
 {
 	if (r->first > r->last || r->of == 0 || r->used > r->of)
@@ -83,12 +89,14 @@ static int add_region(const struct region *r, unsigned bits, struct number_range
 	return 0;
 }
 
+/* An empty text is the empty list. */
 int number_ranges_read(const char *text, unsigned bits, struct number_ranges *out)
 {
 	int fault = 0;
 	memset(out, 0, sizeof *out);
 	if (bits > NUMBER_RANGES_MAX)
 		bits = NUMBER_RANGES_MAX;
+	/* Regions may have several commas and blanks between them, or none at all. */
 	for (;;) {
 		struct region r;
 		while (*text == ',' || is_blank(*text))
@@ -105,6 +113,7 @@ int number_ranges_read(const char *text, unsigned bits, struct number_ranges *ou
 
 /* ---------------------------------------------------------------- the rest */
 
+/* Numbers that follow each other are written as one range. */
 bool number_ranges_write(const struct number_ranges *l, char *out, size_t size)
 {
 	size_t at = 0;
@@ -117,6 +126,7 @@ bool number_ranges_write(const struct number_ranges *l, char *out, size_t size)
 		int added = n == first ? snprintf(out + at, size - at, "%s%u", at ? "," : "", n)
 							   : snprintf(out + at, size - at, "%s%u-%u", at ? "," : "", first, n);
 		at += (size_t)added;
+		/* The line feed and the zero byte need room too. */
 		if (at + 1 >= size)
 			return false;
 	}
@@ -131,6 +141,7 @@ bool number_ranges_is_empty(const struct number_ranges *l)
 	return memcmp(l, &none, sizeof none) == 0;
 }
 
+/* Whether all numbers of the first are in the second. */
 bool number_ranges_is_within(const struct number_ranges *l, const struct number_ranges *all)
 {
 	for (size_t i = 0; i < sizeof l->bits; i++)
@@ -139,12 +150,14 @@ bool number_ranges_is_within(const struct number_ranges *l, const struct number_
 	return true;
 }
 
+/* The intersection takes the place of the first. */
 void number_ranges_keep_common(struct number_ranges *l, const struct number_ranges *other)
 {
 	for (size_t i = 0; i < sizeof l->bits; i++)
 		l->bits[i] &= other->bits[i];
 }
 
+/* 0 for an empty list too. Those of the machine have a number. */
 unsigned number_ranges_last(const struct number_ranges *l)
 {
 	unsigned n = NUMBER_RANGES_MAX - 1;

@@ -8,6 +8,7 @@
 /* The most numbers that a list can have; and how many the kernel has for memory nodes. */
 enum { NUMBER_RANGES_MAX = 8192, NODES_MAX = 1024 };
 
+/* A set: the number n is in it if its bit is 1. */
 struct number_ranges {
 	unsigned char bits[NUMBER_RANGES_MAX / 8];
 };

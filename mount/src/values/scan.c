@@ -7,6 +7,7 @@ static void skip_blanks(const char **at)
 		++*at;
 }
 
+/* A longer word is cut, and its rest is the next word: as with a width in sscanf. */
 bool scan_word(const char **at, char *out, size_t size)
 {
 	size_t n = 0;
@@ -17,6 +18,8 @@ bool scan_word(const char **at, char *out, size_t size)
 	return n > 0;
 }
 
+/* It wraps around, as the kernel's parser does: so a number beyond 64 bits is another number there
+   too. */
 bool scan_decimal(const char **at, unsigned long long *out)
 {
 	bool wraps = false;
@@ -26,6 +29,7 @@ bool scan_decimal(const char **at, unsigned long long *out)
 	return n > 0;
 }
 
+/* Without digits it is 0. */
 unsigned long long scan_memory(const char *text, const char **end)
 {
 	static const char scales[] = "kmgtpe";
@@ -33,6 +37,7 @@ unsigned long long scan_memory(const char *text, const char **end)
 	bool wraps = false;
 	unsigned base = parse_base(&text);
 	text += parse_digits(text, base, &n, &wraps);
+	/* 0x20 makes a letter a small one. */
 	const char *scale = *text ? strchr(scales, *text | 0x20) : NULL;
 	if (scale) {
 		n <<= 10 * (unsigned)(scale - scales + 1);

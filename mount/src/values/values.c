@@ -5,12 +5,15 @@
 #include <stdlib.h>
 #include <string.h>
 
+/* A value that was accepted in a group. The list of the group owns it. Without one the file has
+   its `constant`. */
 struct kept_value {
 	struct kept_value *next;
 	const struct file *file;
 	char text[];
 };
 
+/* The counters of a kernel, in its order. All stay 0. */
 static const char memory_events[] = "low 0\nhigh 0\nmax 0\noom 0\noom_kill 0\noom_group_kill 0\n";
 static const char memory_stat[] =
 	"anon 0\nfile 0\nkernel 0\nkernel_stack 0\npagetables 0\nsec_pagetables 0\npercpu 0\nsock 0\nvmalloc 0\nshmem "
@@ -29,7 +32,8 @@ static const char memory_stat[] =
 		.name = (file_name), .readable = true, .value = WRITES, .write = values_write, .controller = (whose), \
 		.constant = (normal), .take = (parser)                                                                \
 	}
-/* A file whose text is made from other values. */
+/* A file whose text is made from other values. The parser's normal form is stored, and `show`
+   makes the text of that. */
 #define SHOWN(file_name, whose, normal, parser, shower)                                                       \
 	{                                                                                                         \
 		.name = (file_name), .readable = true, .value = WRITES, .write = values_write, .controller = (whose), \
@@ -88,6 +92,7 @@ const struct file values_files[] = {
 };
 const size_t values_count = sizeof values_files / sizeof *values_files;
 
+/* The name has to be one of the table. */
 static const struct file *named(const char *name)
 {
 	const struct file *f = values_files;
@@ -96,6 +101,7 @@ static const struct file *named(const char *name)
 	return f;
 }
 
+/* The place is a pointer to a pointer, as in server/attributes.c. */
 static struct kept_value **find(struct group_state *r, const struct file *file)
 {
 	struct kept_value **at = &r->values;
@@ -104,6 +110,7 @@ static struct kept_value **find(struct group_state *r, const struct file *file)
 	return at;
 }
 
+/* The caller gives the place in the list. */
 static void drop(struct kept_value **at)
 {
 	struct kept_value *v = *at;
@@ -111,6 +118,7 @@ static void drop(struct kept_value **at)
 	free(v);
 }
 
+/* It stays valid until the value is written again or dropped. */
 const char *values_kept(const char *group, const char *name)
 {
 	const struct file *file = named(name);
@@ -119,11 +127,13 @@ const char *values_kept(const char *group, const char *name)
 	return v ? v->text : file->constant;
 }
 
+/* One value for each file: an older one is freed. */
 int values_keep(const char *group, const char *name, const char *text)
 {
 	const struct file *file = named(name);
 	size_t size = strlen(text) + 1;
 	struct group_state *r = group_state_make(group);
+	/* First: without memory the old value stays. */
 	struct kept_value *v = r ? malloc(sizeof *v + size) : NULL;
 	if (!v)
 		return -ENOMEM;
@@ -136,6 +146,7 @@ int values_keep(const char *group, const char *name, const char *text)
 	return 0;
 }
 
+/* A controller that is enabled again begins with the values of a new group. */
 void values_forget(struct group_state *r, unsigned controllers)
 {
 	WANTS_LOCK();
@@ -146,6 +157,7 @@ void values_forget(struct group_state *r, unsigned controllers)
 			at = &(*at)->next;
 }
 
+/* E2BIG: longer than any value. */
 int values_write(const char *group, const struct file *file, const char *data, size_t size)
 {
 	char said[TEXT_ROOM + 1], text[TEXT_ROOM];
@@ -153,6 +165,8 @@ int values_write(const char *group, const struct file *file, const char *data, s
 		return -E2BIG;
 	memcpy(said, data, size);
 	said[size] = 0;
+	/* The parser gives the normal form, which is what is read. It fails before anything has
+	   changed. */
 	int fault = file->take(group, file, said, text);
 	return fault ? fault : values_keep(group, file->form_of ? file->form_of : file->name, text);
 }

@@ -7,9 +7,10 @@
 #include <stdlib.h>
 #include <string.h>
 
+/* SHARES is what the weight 100 has, which is the default. IDLE_SHARES: of a group with cpu.idle. */
 enum { SHARES = 1024, WEIGHT = 100, WEIGHT_MAX = 10000, IDLE_SHARES = 3, NICE_FIRST = -20, NICE_COUNT = 40 };
 
-/* In microseconds. */
+/* In microseconds. most_runtime is what the kernel can count in its own unit. */
 static const unsigned long long shortest = 1000, longest_period = 1000000, most_runtime = (1ULL << 44) - 1;
 
 /* The kernel's weight of each nice value, from -20 to 19. */
@@ -56,6 +57,7 @@ static const int of_nice[NICE_COUNT] = {
 	15,
 };
 
+/* To the nearest whole number; a half is rounded up. */
 static unsigned long long divided(unsigned long long n, unsigned long long by)
 {
 	return (n + by / 2) / by;
@@ -63,16 +65,19 @@ static unsigned long long divided(unsigned long long n, unsigned long long by)
 
 /* ---------------------------------------------------------------- cpu.weight, cpu.weight.nice, cpu.idle */
 
+/* The kept text is `0` or `1` and a line feed. */
 static bool is_idle(const char *group)
 {
 	return values_kept(group, "cpu.idle")[0] == '1';
 }
 
+/* While the group is idle, the weight is kept and not used. */
 static long shares_of(const char *group)
 {
 	return is_idle(group) ? IDLE_SHARES : strtol(values_kept(group, "cpu.weight"), NULL, 10);
 }
 
+/* All parsers here return 0 and the normal form, or -errno. */
 int cpu_take_weight(const char *group, const struct file *file, const char *said, char out[TEXT_ROOM])
 {
 	unsigned long long n;
@@ -80,6 +85,7 @@ int cpu_take_weight(const char *group, const struct file *file, const char *said
 	int fault = parse_unsigned(said, &n);
 	if (fault)
 		return fault;
+	/* ERANGE comes before EINVAL, as in the kernel. */
 	if (n < 1 || n > WEIGHT_MAX)
 		return -ERANGE;
 	if (is_idle(group))
@@ -88,6 +94,7 @@ int cpu_take_weight(const char *group, const struct file *file, const char *said
 	return 0;
 }
 
+/* A nice value and back may give another weight: both are roundings of the shares. */
 int cpu_show_weight(const char *group, const struct file *file, char out[TEXT_ROOM])
 {
 	(void)file;
@@ -123,6 +130,7 @@ int cpu_show_nice(const char *group, const struct file *file, char out[TEXT_ROOM
 	return 0;
 }
 
+/* EINVAL for a number that is neither 0 nor 1, as in the kernel. */
 int cpu_take_idle(const char *group, const struct file *file, const char *said, char out[TEXT_ROOM])
 {
 	char shares[16];
@@ -133,13 +141,16 @@ int cpu_take_idle(const char *group, const struct file *file, const char *said, 
 		return fault ? fault : -EINVAL;
 	snprintf(out, TEXT_ROOM, "%lld\n", n);
 	snprintf(shares, sizeof shares, "%d", SHARES);
+	/* A group that is no longer idle has the default weight, as in the kernel. */
 	return n || !is_idle(group) ? 0 : values_keep(group, "cpu.weight", shares);
 }
 
 /* ---------------------------------------------------------------- cpu.max, cpu.max.burst */
 
+/* `max`. */
 static const unsigned long long no_quota = ~0ULL;
 
+/* The kept text is in the normal form, so it always has both numbers. */
 static void read_max(const char *group, unsigned long long *quota, unsigned long long *period)
 {
 	const char *at = values_kept(group, "cpu.max");
@@ -150,6 +161,7 @@ static void read_max(const char *group, unsigned long long *quota, unsigned long
 	scan_decimal(&at, period);
 }
 
+/* The three values depend on each other: each write checks all of them. */
 static int check_bandwidth(unsigned long long quota, unsigned long long period, unsigned long long burst)
 {
 	if (quota < shortest || period < shortest || period > longest_period)
@@ -159,6 +171,7 @@ static int check_bandwidth(unsigned long long quota, unsigned long long period, 
 	return 0;
 }
 
+/* In microseconds. 0 at first. */
 static unsigned long long burst_of(const char *group)
 {
 	return strtoull(values_kept(group, "cpu.max.burst"), NULL, 10);
@@ -167,6 +180,7 @@ static unsigned long long burst_of(const char *group)
 /* A quota or `max`, and a period, which stays unchanged if none is given. */
 int cpu_take_max(const char *group, const struct file *file, const char *said, char out[TEXT_ROOM])
 {
+	/* As the kernel's sscanf: 20 bytes of a word. */
 	char word[21];
 	unsigned long long quota, period, as_was;
 	const char *at = said;
@@ -193,6 +207,7 @@ int cpu_take_max(const char *group, const struct file *file, const char *said, c
 	return 0;
 }
 
+/* In microseconds. */
 int cpu_take_burst(const char *group, const struct file *file, const char *said, char out[TEXT_ROOM])
 {
 	unsigned long long quota, period, burst;
@@ -201,6 +216,7 @@ int cpu_take_burst(const char *group, const struct file *file, const char *said,
 	if (fault)
 		return fault;
 	read_max(group, &quota, &period);
+	/* In the kernel it becomes nanoseconds, which have to fit into 64 bits. */
 	if (burst > ~0ULL / 1000 || check_bandwidth(quota, period, burst))
 		return -EINVAL;
 	snprintf(out, TEXT_ROOM, "%llu\n", burst);
@@ -209,6 +225,7 @@ int cpu_take_burst(const char *group, const struct file *file, const char *said,
 
 /* ---------------------------------------------------------------- cpu.stat, which exists without the controller too */
 
+/* All counters are 0: nothing is measured. */
 int cpu_stat_show(const char *group, const struct file *file, char out[TEXT_ROOM])
 {
 	static const struct file of_controller = { .controller = HAS_CPU };

@@ -7,6 +7,7 @@
 #include <stdio.h>
 #include <string.h>
 
+/* By the beginning: the names of effective lists go on. */
 static bool is_mems(const struct file *file)
 {
 	return strncmp(file->name, "cpuset.mems", 11) == 0;
@@ -26,10 +27,12 @@ int cpuset_take_list(const char *group, const struct file *file, const char *sai
 		return fault;
 	if (!number_ranges_is_within(&wanted, possible))
 		return -EINVAL;
+	/* A list that is longer than a file can be. */
 	return number_ranges_write(&wanted, out, TEXT_ROOM) ? 0 : -ENOMEM;
 }
 
 /* What is both in the group's list and in that above it; if that is nothing, all of the list above. */
+/* `effective` is that of the group above, and becomes this group's. */
 static void narrow(const char *group, const char *name, struct number_ranges *effective)
 {
 	struct number_ranges own, left = *effective;
@@ -40,11 +43,13 @@ static void narrow(const char *group, const char *name, struct number_ranges *ef
 	}
 }
 
+/* It is made at each read: a change above takes effect at once. */
 int cpuset_show_effective(const char *group, const struct file *file, char out[TEXT_ROOM])
 {
 	char at[PATH_MAX_SAID];
 	struct number_ranges effective = *machine_has(is_mems(file) ? NODES_WITH_MEMORY : CPUS_ONLINE);
 	const char *name = is_mems(file) ? "cpuset.mems" : "cpuset.cpus";
+	/* From the top down to the group: each list narrows the one above it. */
 	for (size_t n = 1; !is_root(group); n++)
 		if (group[n] == '/' || group[n] == 0) {
 			snprintf(at, sizeof at, "%.*s", (int)n, group);
@@ -59,6 +64,7 @@ int cpuset_show_effective(const char *group, const struct file *file, char out[T
 
 /* ---------------------------------------------------------------- cpuset.cpus.partition */
 
+/* Any of the three words is accepted. Whether the partition is valid, a read says. */
 int cpuset_take_partition(const char *group, const struct file *file, const char *said, char out[TEXT_ROOM])
 {
 	static const char *const words[] = { "member", "root", "isolated" };
@@ -74,6 +80,7 @@ int cpuset_take_partition(const char *group, const struct file *file, const char
 	return -EINVAL;
 }
 
+/* It calls itself for the group above, at most once for each level. NULL: it is valid. */
 static const char *why_invalid(const char *group)
 {
 	char above[PATH_MAX_SAID];
@@ -88,6 +95,7 @@ static const char *why_invalid(const char *group)
 	return values_kept(group, "cpuset.cpus")[0] == '\n' ? "cpuset.cpus and cpuset.cpus.exclusive are empty" : NULL;
 }
 
+/* Of a partition that is not valid the kernel shows the word, and why. */
 int cpuset_show_partition(const char *group, const struct file *file, char out[TEXT_ROOM])
 {
 	const char *kept = values_kept(group, file->name);

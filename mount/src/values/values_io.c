@@ -14,6 +14,7 @@ static const char *const rate_names[RATES] = { "rbps", "wbps", "riops", "wiops" 
 
 /* The device at the start, as MAJOR:MINOR and a blank: 0, -EINVAL, or -ENODEV if it is not a whole block device of this
    machine. */
+/* `at` is behind the device afterwards. */
 static int take_device(const char **at, char device[32])
 {
 	unsigned long long major, minor;
@@ -27,6 +28,7 @@ static int take_device(const char **at, char device[32])
 }
 
 /* The line of a device in a text, and its length; the end of the text if it has none. */
+/* A device is followed by a blank: 8:1 is not the beginning of 8:16. */
 static const char *find_line(const char *text, const char *device, size_t *size)
 {
 	size_t n = strlen(device);
@@ -53,11 +55,13 @@ static int replace_line(const char *text, const char *device, const char *line, 
 
 /* ---------------------------------------------------------------- io.max */
 
+/* No limit: 64 bits for bytes, 32 for operations. */
 static unsigned long long greatest(int rate)
 {
 	return rate < 2 ? ULLONG_MAX : UINT_MAX;
 }
 
+/* Rates that a line does not name have no limit. */
 static void read_rates(const char *line, unsigned long long rates[RATES])
 {
 	for (int i = 0; i < RATES; i++) {
@@ -69,6 +73,7 @@ static void read_rates(const char *line, unsigned long long rates[RATES])
 }
 
 /* One NAME=NUMBER or NAME=max. */
+/* The word is changed: its equals sign becomes its end. */
 static int take_rate(char *word, unsigned long long rates[RATES])
 {
 	unsigned long long n;
@@ -81,6 +86,7 @@ static int take_rate(char *word, unsigned long long rates[RATES])
 		n = ULLONG_MAX;
 	else if (!scan_decimal(&value, &n))
 		return -EINVAL;
+	/* ERANGE for 0, EINVAL for 1: the kernel's own. */
 	if (n == 0)
 		return -ERANGE;
 	for (int i = 0; i < RATES; i++)
@@ -91,6 +97,7 @@ static int take_rate(char *word, unsigned long long rates[RATES])
 	return -EINVAL;
 }
 
+/* All four are written, also those that have no limit, as the kernel writes them. */
 static void put_rates(const char *device, const unsigned long long rates[RATES], char line[TEXT_ROOM])
 {
 	bool limits = false;
@@ -103,10 +110,12 @@ static void put_rates(const char *device, const unsigned long long rates[RATES],
 			n += snprintf(line + n, TEXT_ROOM - (size_t)n, " %s=%llu", rate_names[i], rates[i]);
 	}
 	snprintf(line + n, TEXT_ROOM - (size_t)n, "\n");
+	/* A device without limits has no line. */
 	if (!limits)
 		line[0] = 0;
 }
 
+/* A write changes the rates that it names, and keeps the others of this device. */
 int io_take_max(const char *group, const struct file *file, const char *said, char out[TEXT_ROOM])
 {
 	char device[32], word[27], line[TEXT_ROOM];
@@ -119,6 +128,7 @@ int io_take_max(const char *group, const struct file *file, const char *said, ch
 	snprintf(line, sizeof line, "%s", find_line(kept, device, &size));
 	line[size] = 0;
 	read_rates(line, rates);
+	/* Nothing is stored before the last word was accepted. */
 	while (scan_word(&at, word, sizeof word))
 		if ((fault = take_rate(word, rates)))
 			return fault;
@@ -128,6 +138,7 @@ int io_take_max(const char *group, const struct file *file, const char *said, ch
 
 /* ---------------------------------------------------------------- io.weight */
 
+/* EINVAL for all that is no weight: the kernel does not tell them apart. */
 static int take_weight(const char *at, unsigned long long *out)
 {
 	return scan_decimal(&at, out) && *out >= 1 && *out <= WEIGHT_MAX ? 0 : -EINVAL;
@@ -139,6 +150,7 @@ int io_take_weight(const char *group, const struct file *file, const char *said,
 	char device[32], line[64] = "";
 	unsigned long long n;
 	const char *at = said, *kept = values_kept(group, file->name);
+	/* Without a device the default is meant. */
 	if (!strchr(said, ':')) {
 		static const char word[] = "default";
 		if (strncmp(at, word, sizeof word - 1) == 0)

@@ -17,11 +17,13 @@ int memory_take_limit(const char *group, const struct file *file, const char *sa
 	(void)group, (void)file;
 	snprintf(text, sizeof text, "%s", said);
 	const char *from = strip_spaces(text);
+	/* Rounded down, as in the kernel. */
 	unsigned long long pages = scan_memory(from, &end) / page;
 	if (strcmp(from, "max") == 0)
 		pages = LONG_MAX / page;
 	else if (*end)
 		return -EINVAL;
+	/* The kernel's greatest counter is no limit. */
 	if (pages >= LONG_MAX / page)
 		snprintf(out, TEXT_ROOM, "max\n");
 	else

@@ -216,7 +216,7 @@ CALLS = [
     ("chown to its owner", lambda g: os.chown(g + "/in", os.geteuid(), os.getegid()), "ok", "ok"),
     ("utimensat", lambda g: os.utime(g + "/" + RW, (1, 2)), "ok", "ok"),
 ]
-# What MOUNT lists as another answer.
+# What docs/LIMITS.md lists as another answer.
 OTHERWISE = {"mmap, MAP_PRIVATE": "ok"}
 
 

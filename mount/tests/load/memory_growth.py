@@ -1,14 +1,18 @@
 """Without --control neither a mount nor a run keeps a history: hours of forks and exits do not increase the memory."""
 import os
+import statistics
 import subprocess
 import sys
 
 sys.path.insert(0, os.path.dirname(os.path.dirname(os.path.realpath(__file__))))
-from support import PROGRAM, Mount, finish, in_parallel, same, status_within, step
+from support import PROGRAM, Mount, finish, in_parallel, own_of, same, server_and_helper, status_within, step, write
 
 # With an arena for each thread the memory grows until each has had its turn with the most records.
 os.environ["MALLOC_ARENA_MAX"] = "1"
-PAIRS, FORKS, CLIENTS, GROUPS = 16000, 5000, 20, 2000
+PAIRS, CLIENTS, GROUPS = 16000, 20, 2000
+FORKS, ROUNDS, FIRST = 2000, 6, 1000
+# Bytes of a leak that is found, for each fork. The engine's list of pages of numbers grows with the highest number.
+LEAST, LEAST_WITH_NEW_NUMBERS = 2, 10
 
 
 def resident(pid):
@@ -60,43 +64,77 @@ def of_groups():
 
 
 PROGRAM_INSIDE = """import os, sys
-def forks(n):
+def rounds(n):
     for _ in range(n):
         pid = os.fork()
         if pid == 0:
             os._exit(0)
         os.waitpid(pid, 0)
-    return pid
-for count in (%d, %d):
-    print(forks(count), flush=True)
+        os.close(os.open("/proc/self/cgroup", os.O_RDONLY))
+for count in (%d, *[%d] * %d):
+    rounds(count)
+    print(flush=True)
     sys.stdin.readline()
 """ % (
     FORKS // 4,
     FORKS,
+    ROUNDS,
 )
 
 
-def of_run():
-    p = subprocess.Popen(
-        [PROGRAM, "run", sys.executable, "-c", PROGRAM_INSIDE], stdin=subprocess.PIPE, stdout=subprocess.PIPE, text=True
-    )
-    first = int(p.stdout.readline())
-    children = open("/proc/%d/task/%d/children" % (p.pid, p.pid)).read().split()
-    ours = [p.pid] + [int(c) for c in children if open("/proc/%s/comm" % c).read() == "makhloeum\n"]
-    before = [resident(pid) for pid in ours]
-    p.stdin.write("\n")
-    p.stdin.flush()
-    # the tables have a place for each number of a process, and those of other processes lie between these
-    numbers = (int(p.stdout.readline()) - first) % 4194304
-    grown = [resident(pid) - was for pid, was in zip(ours, before)]
-    print("  run: the supervisor and its helpers grow by %s bytes in %d forks, %d numbers" % (grown, FORKS, numbers))
-    step("a run does not grow", len(grown) >= 2 and max(grown) < 60 * max(FORKS, numbers), grown)
-    p.stdin.write("\n")
+def allocated(pid):
+    """Bytes of a process that are in no file, without the program's static arrays. Those grow too, but not beyond their size: each page
+    takes memory once a number or a birth has its place there, until the numbers wrap around."""
+    total, end, counts = 0, None, True
+    for line in open("/proc/%d/smaps" % pid):
+        words = line.split()
+        if not words[0].endswith(":"):  # the head of a mapping; static arrays begin where the program's file ends
+            begin, last = words[0].split("-")
+            is_program = words[5:6] == [os.path.realpath(PROGRAM)]
+            counts = not is_program and not (begin == end and len(words) == 5)
+            end = last if is_program else None
+        elif counts and words[0] in ("Anonymous:", "Swap:"):
+            total += 1024 * int(words[1])
+    return total
+
+
+def of_run(chooses_numbers):
+    words = [PROGRAM, "run", sys.executable, "-c", PROGRAM_INSIDE]
+    p = subprocess.Popen(words, stdin=subprocess.PIPE, stdout=subprocess.PIPE, text=True)
+    p.stdout.readline()
+    server, helper = server_and_helper(p.pid)
+    (companion,) = set(own_of(p.pid)) - {server, helper}
+    ours = {"supervisor": p.pid, "server": server, "helper": helper, "companion": companion}
+    sizes = {name: [] for name in ours}
+    for _ in range(ROUNDS):
+        if chooses_numbers:  # each round has the same ones
+            write("/proc/sys/kernel/ns_last_pid", b"%d" % FIRST)
+        p.stdin.write("\n")
+        p.stdin.flush()
+        p.stdout.readline()
+        for name, pid in ours.items():
+            sizes[name].append(allocated(pid))
     p.stdin.close()
     same("its status", status_within(p), 0)
+    most = FORKS * (LEAST if chooses_numbers else LEAST_WITH_NEW_NUMBERS)
+    for name, of in sizes.items():
+        # a thread may still begin in some rounds, and in others memory that was freed before is used again
+        grown = statistics.median(after - before for before, after in zip(of, of[1:]))
+        print("  run: the %s grows by %.1f bytes for each of %d forks and opens" % (name, grown / FORKS, FORKS))
+        step("the %s of a run does not grow" % name, 0 < of[0] and grown < most, of)
 
 
+if sys.argv[1:2] == ["run"]:
+    of_run(sys.argv[2:] == ["numbers"])
+    finish()
 of_mount()
 of_groups()
-of_run()
+# The processes of a run let only a superuser of the namespace that they began in look at their memory. In a namespace of numbers nobody
+# else uses any, and its superuser may say which number is next.
+space = ["unshare", "--user", "--map-root-user"]
+of_numbers = [*space, "--mount", "--pid", "--fork", "--mount-proc", "--kill-child"]
+asked = subprocess.run([*of_numbers, "sh", "-c", "echo 100 >/proc/sys/kernel/ns_last_pid"], stderr=subprocess.DEVNULL)
+again = [sys.executable, os.path.realpath(__file__), "run"]
+ran = subprocess.run([*space, *again] if asked.returncode else [*of_numbers, *again, "numbers"])
+same("a run: its status", ran.returncode, 0)
 finish()

@@ -36,7 +36,7 @@ INCLUDES = {
         "helper/helper.h",
     ): "the supervisor's side of the helper: it sends and receives, and never waits",
     (
-        "supervisor/tracer.c",
+        "supervisor/calls.c",
         "helper/helper.h",
     ): "the supervisor's side of the helper: it sends and receives, and never waits",
     ("helper/procfiles.c", "values/controllers.h"): "which controllers are kept: it was read before the helper began",
