@@ -341,7 +341,7 @@ const mk_file *mk_file_at(size_t i);
    text. Statuses as for mk_read; info->error for MK_PATH is as for mk_put. */
 uint32_t mk_get(mk_handle *h, const char *path, const char *file, char *text, size_t size, mk_info *info);
 
-/* Writes a file as a write to a mount's does (docs/MOUNT.md, "Files"): numbers may be octal, hexadecimal or signed, a
+/* Writes a file as a write to a mount's does (docs/LIMITS.md, "Files"): numbers may be octal, hexadecimal or signed, a
    constant accepts its current value, and a pid of 0 is self. Statuses as for mk_write; info->error is the mount's errno.
    For MK_VALUE it can be ERANGE, ESRCH, E2BIG or EOPNOTSUPP, as in the kernel or the mount; for MK_PATH it is ENOENT, since
    a mount has no such group, or ENAMETOOLONG for a path that is too long. A group or a file that isn't there,

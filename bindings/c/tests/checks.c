@@ -211,7 +211,9 @@ static int names_of_codes(void)
 	char version[32];
 	uint32_t number = mk_version_number();
 	snprintf(version, sizeof version, "%u.%u.%u", number / 1000000, number / 1000 % 1000, number % 1000);
-	CHECK(number == MK_VERSION_NUMBER && strcmp(mk_version(), MK_VERSION) == 0 && strcmp(version, MK_VERSION) == 0);
+	CHECK(number == MK_VERSION_NUMBER && strcmp(version, MK_VERSION) == 0);
+	/* a library that ./try made says so */
+	CHECK(strcmp(mk_version(), MK_VERSION) == 0 || strcmp(mk_version(), MK_VERSION " without proofs") == 0);
 	CHECK(mk_status_errno(MK_DONE, 0) == 0 && mk_status_errno(MK_CLOSED, 0) == EBADF &&
 		mk_status_errno(MK_OUT_OF_MEMORY, 0) == ENOMEM);
 	CHECK(mk_status_errno(MK_REFUSED, MK_EXISTS) == EEXIST && mk_status_errno(MK_SKIPPED, 0) == 0 &&

@@ -215,7 +215,6 @@ static int failing(void)
 	uint8_t out[64];
 	uint32_t pids[2];
 	uint64_t value;
-	bool populated;
 	mk_text it;
 	size_t left, before, after;
 	CHECK(done(mk_mkdir(&h, "/a", &info)) && done(mk_mkdir(&h, "/b", &info)) && mk_depth(&h, &before) == MK_DONE);
@@ -230,11 +229,9 @@ static int failing(void)
 	CHECK(done(mk_fail(&h, "/a", 1, EIO, &info)) && failed(mk_attach(&h, "/a", 1, &info), EIO));
 	CHECK(done(mk_fail(&h, "/a", 1, EIO, &info)) && failed(mk_write(&h, "/a", "pids.max", "5", &info), EIO));
 	CHECK(done(mk_fail(&h, "/a", 1, EIO, &info)) && failed(mk_kill(&h, "/a", &info), EIO));
-	CHECK(done(mk_fail(&h, "/a", 1, EIO, &info)) && failed(mk_current(&h, "/a", &value, &info), EIO) && value == 0);
-	CHECK(done(mk_fail(&h, "/a", 1, EIO, &info)) && failed(mk_peak(&h, "/a", &value, &info), EIO) && value == 0);
-	CHECK(done(mk_fail(&h, "/a", 1, EIO, &info)) && failed(mk_limit(&h, "/a", &value, &info), EIO) && value == 0);
-	CHECK(
-		done(mk_fail(&h, "/a", 1, EIO, &info)) && failed(mk_populated(&h, "/a", &populated, &info), EIO) && !populated);
+	for (size_t i = 0; i < GROUP_NUMBERS; i++)
+		CHECK(done(mk_fail(&h, "/a", 1, EIO, &info)) &&
+			failed(ask_number(&group_numbers[i], &h, "/a", &value, &info), EIO) && value == 0);
 	CHECK(done(mk_fail(&h, "/a", 1, EIO, &info)) && failed(mk_processes(&h, "/a", pids, 2, &info), EIO) &&
 		info.count == 0);
 	CHECK(done(mk_fail(&h, "/a", 1, EIO, &info)) && done(mk_read_many(&h, names, 1, &it, text, sizeof text, &info)) &&

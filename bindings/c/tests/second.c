@@ -175,7 +175,6 @@ static int forked(void)
 	}
 static uint32_t pids[2];
 static mk_text one_text;
-static bool populated;
 CALL(by_line, mk_line(it, 1, PATH("mkdir /x"), out, OUT, &info))
 CALL(by_words, mk_words(it, 1, "mkdir/x", (const size_t[]){ 5, 2 }, 2, out, OUT, &info))
 CALL(by_undo, mk_undo(it, 1, out, OUT, &info))
@@ -194,10 +193,6 @@ CALL(by_write, mk_write(it, "/a", "pids.max", "5", &info))
 CALL(by_kill, mk_kill(it, "/a", &info))
 CALL(by_read, mk_read(it, "/a", "pids.max", text, OUT, &info))
 CALL(by_where, mk_where(it, 1, text, OUT, &info))
-CALL(by_current, mk_current(it, "/a", &value, &info))
-CALL(by_peak, mk_peak(it, "/a", &value, &info))
-CALL(by_limit, mk_limit(it, "/a", &value, &info))
-CALL(by_populated, mk_populated(it, "/a", &populated, &info))
 CALL(by_processes, mk_processes(it, "/", pids, 2, &info))
 CALL(by_many, mk_read_many(it, "/a\0pids.max", 1, &one_text, text, OUT, &info))
 CALL(by_wait_file, mk_wait_file(it, "/a", "pids.max", "", MK_FOREVER, text, OUT, &info))
@@ -214,9 +209,8 @@ static const struct {
 	uint32_t (*make)(mk_handle *it);
 } calls[] = { ROW(by_line), ROW(by_words), ROW(by_undo), ROW(by_undo_to), ROW(by_history), ROW(by_groups),
 	ROW(by_children), ROW(by_subtree), ROW(by_has_group), ROW(by_mkdir), ROW(by_rmdir), ROW(by_fork), ROW(by_exit),
-	ROW(by_attach), ROW(by_write), ROW(by_kill), ROW(by_read), ROW(by_where), ROW(by_current), ROW(by_peak),
-	ROW(by_limit), ROW(by_populated), ROW(by_processes), ROW(by_many), ROW(by_wait_file), ROW(by_fail), ROW(by_vanish),
-	ROW(by_get), ROW(by_put) };
+	ROW(by_attach), ROW(by_write), ROW(by_kill), ROW(by_read), ROW(by_where), ROW(by_processes), ROW(by_many),
+	ROW(by_wait_file), ROW(by_fail), ROW(by_vanish), ROW(by_get), ROW(by_put) };
 
 static int closed(void)
 {
@@ -230,13 +224,15 @@ static int closed(void)
 			for (int seen = again; seen < ALL; seen++) {
 				for (size_t i = 0; i < sizeof calls / sizeof *calls; i++) {
 					memset(&info, 0xa5, sizeof info);
-					value = 9;
-					populated = true;
 					CHECK(calls[i].make(all[seen]) == MK_CLOSED && info.error == EBADF && info.code == 0);
-					CHECK(info.len == 0 && info.count == 0 && info.needed == 0 && (value == 9 || value == 0));
+					CHECK(info.len == 0 && info.count == 0 && info.needed == 0);
 				}
-				CHECK(by_current(all[seen]) == MK_CLOSED && value == 0 && by_populated(all[seen]) == MK_CLOSED &&
-					!populated);
+				for (size_t i = 0; i < GROUP_NUMBERS; i++) {
+					memset(&info, 0xa5, sizeof info);
+					CHECK(ask_number(&group_numbers[i], all[seen], "/a", &value, &info) == MK_CLOSED && value == 0);
+					CHECK(info.error == EBADF && info.code == 0);
+					CHECK(info.len == 0 && info.count == 0 && info.needed == 0);
+				}
 				CHECK(mk_depth(all[seen], &size) == MK_CLOSED && size == 0 && mk_forget(all[seen]) == MK_CLOSED);
 				CHECK(mk_changes(all[seen], &value) == MK_CLOSED && value == 0 && mk_close(all[seen]) == MK_CLOSED);
 				CHECK(mk_wait(all[seen], 0, MK_FOREVER, &value) == MK_CLOSED && value == 0);

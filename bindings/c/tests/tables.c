@@ -53,15 +53,14 @@ static int reads(void)
 {
 	uint32_t pids[8];
 	uint64_t value;
-	bool populated;
 	mk_text texts[2];
 	CHECK(fields(mk_read(&h, "/a", "cgroup.procs", text, sizeof text, unset()), 2, 0) &&
 		fields(mk_where(&h, 2, text, sizeof text, unset()), strlen("0::/a\n"), 0));
 	CHECK(fields(mk_wait_file(&h, "/a", "cgroup.procs", "", 0, text, sizeof text, unset()), 2, 0));
 	CHECK(fields(mk_processes(&h, "/a", pids, 8, unset()), 0, 1) &&
 		fields(mk_processes(&h, "/a/b", pids, 8, unset()), 0, 0));
-	CHECK(fields(mk_current(&h, "/a", &value, unset()), 0, 0) && fields(mk_peak(&h, "/a", &value, unset()), 0, 0) &&
-		fields(mk_limit(&h, "/a", &value, unset()), 0, 0) && fields(mk_populated(&h, "/a", &populated, unset()), 0, 0));
+	for (size_t i = 0; i < GROUP_NUMBERS; i++)
+		CHECK(fields(ask_number(&group_numbers[i], &h, "/a", &value, unset()), 0, 0));
 	CHECK(fields(mk_children(&h, bytes("/a"), 2, out, sizeof out, unset()), 2, 1) &&
 		fields(mk_subtree(&h, bytes("/a"), 2, out, sizeof out, unset()), sizeof "/a" + sizeof "/a/b", 2));
 	CHECK(fields(mk_groups(&h, out, sizeof out, unset()), sizeof "/" + sizeof "/a" + sizeof "/a/b", 3) &&
