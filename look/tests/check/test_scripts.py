@@ -90,6 +90,14 @@ def test_processes_that_fork():
         STARTS.format(3) + "; echo $p3 >a/cgroup.procs",
         "rmdir a",
     ]
+    # one whose group is asked for before its move is there by then
+    assert body("mkdir /a", "fork 1 2", "where 2", "write /a cgroup.procs 2", "rmdir /a") == [
+        "mkdir a",
+        STARTS.format(2),
+        "cat /proc/$p2/cgroup",
+        "echo $p2 >a/cgroup.procs",
+        "rmdir a",
+    ]
 
 
 @pytest.mark.parametrize(
