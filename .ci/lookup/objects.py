@@ -48,11 +48,30 @@ class Objects:
                         found.setdefault(owner, set()).add(name[1])
         return found
 
+    @functools.cached_property
+    def bases(self):
+        """The classes that each class of Python inherits from, in their order."""
+        found = {}
+        for path, text in self.texts.items():
+            if ending(path) == ".py":
+                for name, bases in re.findall(r"^\s*class (\w+)\(([\w., ]+)\):", text, re.M):
+                    found.setdefault(name, []).extend(re.findall(r"(\w+)(?:,|$)", bases))
+        return found
+
+    def definer(self, owner, name, seen=()):
+        """The class that defines the method of an owner: itself, or the first of those that it inherits from; None if none does."""
+        if name in self.classes.get(owner, ()):
+            return owner
+        above = (self.definer(base, name, (*seen, owner)) for base in self.bases.get(owner, ()) if base not in seen)
+        return next(filter(None, above), None)
+
     def is_owner(self, owner, name, found):
-        """Whether one of these classes, or of the results of these functions, is the owner; None if the text doesn't tell."""
-        if owner in found:
+        """Whether the owner is one of these classes, or of the results of these functions, or one of them has the method from the owner;
+        None if the text doesn't tell."""
+        definers = {self.definer(one, name) for one in found}
+        if owner in found or owner in definers:
             return True
-        return False if any(name in self.classes.get(one, ()) for one in found) else None
+        return False if definers - {None} else None
 
     def calls(self, path, name, owner):
         """For each line of a file that calls a method of that name, whether it is the owner's: True, False or None."""

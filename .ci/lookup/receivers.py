@@ -414,7 +414,7 @@ def value_at(text, at):
     depth = 0
     for here in range(at, len(text)):
         if text[here] in "([{":
-            if text[here] == "{" and depth == 0 and not re.search(r"= \w+ $", text[:here]):
+            if text[here] == "{" and depth == 0 and not re.search(r"= (?:\w+::)*\w+ $", text[:here]):
                 return text[at:here].rstrip().removesuffix(" else"), True
             depth += 1
         elif text[here] in ")]}":

@@ -1,5 +1,8 @@
-"""Tests of .ci/documents: which words count, how many may be in a page and in all, and how long cells and paragraphs may be."""
+"""Tests of .ci/documents: that it finds each kind of fault, which words count, how many may be in a page and in all, and how long cells and paragraphs may be."""
+import contextlib
+import io
 import os
+import subprocess
 import unittest
 from unittest import mock
 
@@ -166,6 +169,152 @@ class Whole(MadeUp):
         ):
             found = [*documents.faults_of_names(repository, "a.md", 3, f"See `{token}`.")]
             self.assertEqual(found, [f"a.md:3: {fault}"] if fault else [], token)
+
+    def test_an_item_behind_a_file_is_in_it(self):
+        self.write("program.py", "first = 1\n")
+        self.write("crates/low/specs/Sum.antt", "Adds = Few\n")
+        self.write("docs/Sum.md", "`Other`\n")
+        self.write("notes", "second\n")
+        repository = documents.Repository()
+        for line, faults in (
+            ("`program.py` (`first`), `Sum` (`Adds`, `sum.c`, `a/b`), `first` (`second`)", []),
+            ("`program.py` (`second`)", ["second is not in program.py"]),
+            ("`Sum` (`Adds`, `Other`)", ["Other is not in Sum"]),
+            ("`Nothing` (`Adds`)", []),
+        ):
+            found = [*documents.faults_of_items(repository, "a.md", 3, line)]
+            self.assertEqual(found, [f"a.md:3: {fault}" for fault in faults], line)
+
+    def test_what_is_in_a_fence_or_indented_is_no_prose(self):
+        text = "one\n```\ntwo\n    three\n```\n    four\nfive\n"
+        self.assertEqual([*documents.prose(text)], [(1, "one"), (7, "five"), (8, "")])
+
+    def test_a_paragraph_ends_at_a_blank_line_a_heading_a_table_or_an_item(self):
+        for ends in ("", "# A heading", "| a | table |", "```\ncode\n```"):
+            lines = f"one\ntwo\n{ends}\nthree"
+            found = [*documents.paragraphs(lines)]
+            self.assertEqual(found, [(1, "one two"), (lines.count("\n") + 1, "three")], ends)
+        items = [*documents.paragraphs("one\n- two\n  more\n* three\n10. four\n")]
+        self.assertEqual(items, [(1, "one"), (2, "- two more"), (4, "* three"), (5, "10. four")])
+
+    def test_git_names_the_files(self):
+        """Also those that it will have, but none that is ignored or gone."""
+        for name in ("a", "b", "c", "out/d"):
+            self.write(name, "")
+        self.assertEqual(documents.committed(), ["a", "b", "c"], "without git, all but what was built")
+        self.write(".gitignore", "b\n")
+        git = ["git", "-C", self.top]
+        subprocess.run([*git, "init", "-q"], check=True)
+        subprocess.run([*git, "add", "a", ".gitignore"], check=True)
+        os.remove(f"{self.top}/a")
+        self.assertEqual(sorted(documents.committed()), [".gitignore", "c", "out/d"])
+
+
+class All(MadeUp):
+    """The program itself, on a repository without a fault, and with one of each kind."""
+
+    program = documents
+    GENERATORS = ("docs/draw-architecture", "docs/draw-measurements", "docs/draw-tables", "generate")
+    MAP = "\n## The folders\n\n| Folder | What |\n|---|---|\n| `crates`, `docs`, `docs/reference`, `src` | all |\n\n## More\n"
+
+    def setUp(self):
+        super().setUp()
+        self.patch(
+            "faults_of_words", lambda is_there: [f"{it} is nowhere" for it in self.newcomers if not is_there(it)]
+        )
+        self.newcomers = ["low", "a_word", "main.c", "<main>"]
+        self.write("crates.txt", "low: std\nhigh: low\n")
+        for crate in ("low", "high"):
+            self.write(f"crates/{crate}/src/lib.rt", "//! A crate.\n")
+        self.write("crates/low/specs/Sum.antt", "-- A sum.\nabbrev pub Adds : Type 0\nAdds = Few\n")
+        self.write("docs/reference/README.md", "`low`, `high`\n")
+        self.write("docs/ARCHITECTURE.md", f"`low`, `high`\n{self.MAP}")
+        self.write("README.md", "By `Sum.Adds`.\n")
+        self.write("docs/PROVED.md", "All.\n")
+        self.write("src/main.c", "/* A <main> program. */\nint a_word;\n")
+        for name in self.GENERATORS:
+            self.write(name, "#!/bin/sh\n", 0o755)
+        subprocess.run(["git", "-C", self.top, "init", "-q"], check=True)
+
+    def all_faults(self, status=1):
+        said = io.StringIO()
+        with contextlib.redirect_stdout(said):
+            self.assertEqual(documents.main(), status, said.getvalue())
+        *faults, last = said.getvalue().splitlines()
+        pages = sum(name.endswith(".md") for _, _, names in os.walk(self.top) for name in names)
+        self.assertEqual(last, f"documents: {pages} read, {len(faults)} faults")
+        return faults
+
+    def test_without_a_fault(self):
+        self.assertEqual(self.all_faults(status=0), [])
+
+    def test_one_fault_of_each_kind(self):
+        head = "no head that says what is there"
+        for path, text, fault in (
+            ("crates.txt", "low: std\nhigh: low\ngone: low\n", "crates.txt: gone is not in both list and folder"),
+            ("crates/high/specs/Sum.antt", "-- A sum.\n", "specs/Sum.antt is in high, low: rename all but one"),
+            ("generate", "#!/bin/sh\nexit 1\n", "generate --check failed"),
+            ("README.md", "By rattle-kit-1a.\n", "README.md, docs/PROVED.md: rattle-kit-1a is on one of them only"),
+            ("new/main.c", "int b;\n", f"new/: no line under `## The folders` of docs/ARCHITECTURE.md, and {head}"),
+            ("src/main.c", "/* A program. */\nint a_word;\n", "<main> is nowhere"),
+            (
+                "crates/low/must-fail/a.edit",
+                "file: src/lib.rt\n",
+                "crates/low/must-fail/a.edit: no line `# breaks: NAME`",
+            ),
+            ("crates/low/data/a.cases", "== one\n", "crates/low/data/a.cases: no line `# shows: NAME`"),
+            (
+                "crates/high/src/lib.rt",
+                "// By `specs/No.antt`.\n",
+                "crates/high/src/lib.rt:1: there is no specs/No.antt",
+            ),
+            (
+                "crates/low/specs/Sum.antt",
+                "-- By no_crate.\nabbrev pub Adds : Type 0\nAdds = Few\n",
+                "crates/low/specs/Sum.antt:1: no_crate is in no crate",
+            ),
+            ("src/b.py", "# By no_word.\n", "src/b.py:1: no_word is nowhere but in comments"),
+            ("README.md", "a b c\n\n" * 301, "README.md: 903 words, at most 900"),
+            ("docs/A.md", "See `Sum.None`.\n", "docs/A.md:1: Sum defines no None"),
+            ("docs/A.md", "See [it](B.md).\n", "docs/A.md:1: no page B.md"),
+            ("docs/A.md", "In vain.\n", "docs/A.md:1: say it plainly: In vain"),
+            ("docs/A.md", f"{'long ' * 121}\n", "docs/A.md:1: a paragraph of 604 characters, at most 600"),
+            ("README.md", "See `src/a_word`.\n", "README.md:1: no path src/a_word"),
+        ):
+            at = f"{self.top}/{path}"
+            before = self.read(path) if os.path.exists(at) else None
+            self.write(path, text, 0o755 if path in self.GENERATORS else 0o644)
+            self.assertIn(fault, self.all_faults(), path)
+            if before is None:
+                os.remove(at)
+            else:
+                self.write(path, before, 0o755 if path in self.GENERATORS else 0o644)
+        self.assertEqual(self.all_faults(status=0), [])
+
+    def test_the_pages_whose_names_and_paths_are_definite(self):
+        """A newcomer's pages: each path leads somewhere, and on three of them each name is defined, not only mentioned."""
+        self.write("notes", "mentioned_word\n")
+        for page, is_defined in (
+            ("README.md", True),
+            ("CONTRIBUTING.md", True),
+            ("docs/RECIPES.md", True),
+            ("RELEASE.md", False),
+            ("docs/FAILURES.md", False),
+            ("docs/RELEASES.md", False),
+            ("docs/MOUNT.md", None),
+        ):
+            before = self.read(page) if os.path.exists(f"{self.top}/{page}") else "A page.\n"
+            self.write(page, "See `mentioned_word` in `src/notes`.\n")
+            faults = [f"{page}:1: no path src/notes"] if is_defined is not None else []
+            faults += [f"{page}:1: nothing defines mentioned_word"] if is_defined else []
+            self.assertEqual(self.all_faults(status=1 if faults else 0), faults, page)
+            self.write(page, before)
+
+    def test_each_page_written_by_hand_has_a_limit(self):
+        free = ("CHANGELOG.md", "evidence/README.md", "bindings/python/README.md")
+        listed = subprocess.run(["git", "ls-files", "*.md"], cwd=TOP, stdout=subprocess.PIPE, text=True).stdout.split()
+        limits = {*documents.WORDS_AT_MOST, *documents.APART_AT_MOST, *free}
+        self.assertEqual([it for it in listed if not it.startswith("docs/reference/") and it not in limits], [])
 
 
 class Elsewhere(MadeUp):

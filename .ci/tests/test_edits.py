@@ -3,10 +3,12 @@ import glob
 import os
 import subprocess
 import unittest
+from unittest import mock
 
 from scripts import MadeUp, load
 
 edits = load(".ci/edits")
+lines_of, version = edits.lines_of, edits.version
 
 
 class Edits(MadeUp):
@@ -167,8 +169,22 @@ class Edits(MadeUp):
         self.assertEqual(self.calls, ["rt ci snzi_tree sessions"])
         self.assertEqual(self.names("--due") + self.names("--due-below"), [])
         self.calls.clear()
-        self.run_with("--full")
+        self.assertEqual(self.run_with("--full"), ["edits: none is due"])
         self.assertEqual(self.calls, [])
+
+    def test_crates_that_are_named_are_tried_and_no_others(self):
+        said = self.run_with("low", "sessions")
+        self.assertEqual(self.calls, ["rt must-fail low sessions"])
+        self.assertIn("edits of low: 1 of 1 refused", said)
+        self.assertEqual(self.names("--due"), ["snzi_tree"])
+
+    def test_what_is_laid_is_counted_and_named(self):
+        self.assertEqual(
+            self.run_with("--lay"),
+            ["edits: 1 in the first set; 3 of the second set are due, of low, snzi_tree, sessions"],
+        )
+        self.run_with()
+        self.assertEqual(self.run_with("--lay"), ["edits: 1 in the first set; 0 of the second set are due"])
 
     def test_full_proves_all_with_a_kit_whose_rt_ci_takes_no_names(self):
         self.takes_names = False
@@ -191,6 +207,79 @@ class Edits(MadeUp):
         self.assertIn("edits: 4 refused; not all of low", self.run_with(status=1))
         self.assertEqual(self.names("--due"), ["low"])
         self.assertIn("edits: 1 refused; not all of low", self.run_with("--full", status=1))
+
+    def test_a_new_edit_that_is_not_refused_is_not_noted_with_its_crate(self):
+        self.land()
+        self.edit("low", "must-fail-more", "harmless", new="the same")
+        for _ in range(2):
+            self.assertIn("edits: low/harmless.edit was NOT REFUSED, or not tried", self.land(status=1))
+            self.assertEqual(self.names("--due"), ["low"])
+
+    def test_a_run_that_is_stopped_has_noted_the_crates_that_ended(self):
+        def stopped(command):
+            lines = self.rt(command).stdout.splitlines(True)
+            yield from (line for line in lines if " low/" in line or " snzi_tree/" in line)
+            raise KeyboardInterrupt
+
+        self.patch("lines_of", stopped)
+        self.assertRaises(KeyboardInterrupt, edits.main, ["--full"])
+        self.assertEqual(self.names("--due") + self.names("--due-below"), ["sessions"])
+
+    def test_an_edit_without_a_file_or_an_old_text_fails(self):
+        for text in ("old: right\nnew: wrong\n", "file: src/lib.rt\nnew: wrong\n"):
+            self.write("crates/low/must-fail-more/e.edit", text)
+            why = "edits: low/e.edit can't be applied: a new: line before file: and old:"
+            self.assertEqual(self.run_with("--check", status=1), [why])
+        for text, why in (
+            ("file: src/lib.rt\n", "no pair of old: and new:"),
+            ("file: src/gone.rt\nold: right\nnew: wrong\n", "there is no src/gone.rt"),
+            ("file: src/lib.rt\nold: right\nnew: a\nnew: b\n", "a new: line before file: and old:"),
+        ):
+            self.write("crates/low/must-fail-more/e.edit", text)
+            self.assertEqual(self.run_with("--check", status=1), [f"edits: low/e.edit can't be applied: {why}"])
+
+    def test_an_edit_of_both_sets_fails(self):
+        self.edit("snzi_tree", "must-fail", "c")
+        self.assertEqual(self.run_with("--check", status=1), ["edits: snzi_tree/c.edit is in both sets"])
+
+    def test_each_line_of_an_edit_that_rt_reads_makes_it_due(self):
+        self.write("crates/low/src/two.rt", "fn two() { right }\n")
+        self.run_with("low")
+        for path, old, new in (
+            ("src/two.rt", "right", "wrong"),
+            ("src/two.rt", "{ right", "wrong"),
+            ("src/two.rt", "{ right", "wrong too"),
+        ):
+            self.write("crates/low/must-fail-more/a.edit", f"file: {path}\nold: {old}\nnew: {new}\n")
+            self.assertEqual(self.names("--due")[:1], ["low"], (path, old, new))
+            self.run_with("low")
+            self.assertNotIn("low", self.names("--due"))
+
+    def test_a_sum_is_that_of_names_and_texts_in_any_order(self):
+        self.write("a", "one\n")
+        self.write("b", "two\n")
+        a, b = f"{self.top}/a", f"{self.top}/b"
+        whole = edits.sum_of({"x": a, "y": b})
+        self.assertEqual(edits.sum_of({"y": b, "x": a}), whole)
+        for other in ({"x": b, "y": a}, {"x": a}, {"x": a, "z": b}):
+            self.assertNotEqual(edits.sum_of(other), whole)
+
+    def test_the_kit_is_asked_once_for_its_version(self):
+        self.patch("version", version)
+        self.addCleanup(version.__dict__.pop, "known", None)
+        self.write("tools/rt", f'#!/bin/sh\necho "$*" >>{self.top}/asked\necho kit-3\n', 0o755)
+        with mock.patch.dict(os.environ, PATH=f"{self.top}/tools:{os.environ['PATH']}"):
+            self.assertEqual([version(), version()], ["kit-3\n"] * 2)
+            self.assertEqual(self.read("asked"), "version\n")
+            version.__dict__.pop("known")
+            self.write("tools/rt", "#!/bin/sh\nexit 1\n", 0o755)
+            with self.assertRaises(SystemExit) as no:
+                version()
+        self.assertTrue(str(no.exception).startswith("edits: rt version: "))
+
+    def test_a_command_runs_at_the_top_and_its_errors_are_read_too(self):
+        said = [*lines_of(["sh", "-c", "pwd; echo why >&2"])]
+        self.assertEqual(said, [f"{os.path.realpath(self.top)}\n", "why\n"])
 
     def test_an_edit_whose_old_text_is_gone_fails(self):
         self.edit("sessions", "must-fail-more", "stale", old="no such text")
@@ -257,7 +346,7 @@ class Edits(MadeUp):
         self.assertEqual(sorted(os.walk(f"{self.top}/crates")), before)
 
     def test_wrong_words(self):
-        for words in (["--no-such"], ["no_such_crate"], ["--note"]):
+        for words in (["--no-such"], ["no_such_crate"], ["docs_only"], ["--note"], ["low", "--due"]):
             self.run_with(*words, status=2)
 
 

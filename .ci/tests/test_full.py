@@ -72,6 +72,24 @@ class Full(MadeUp):
         self.assertIn("edits passed, and is not noted", self.said("edits"))
         self.assertEqual(self.noted(), {})
 
+    def test_what_the_parts_themselves_write_is_no_change(self):
+        for path in (".ci/state/edits-passed", ".ci/state/mutants-caught"):
+            self.write(path, "as it was\n")
+        self.commit()
+        for path in (".ci/state/edits-passed", ".ci/state/mutants-caught"):
+            self.write(path, "noted\n")
+        self.said("edits", "mutants")
+        self.assertEqual(list(self.noted()), ["edits", "mutants"])
+
+    def test_a_commit_during_a_part_is_not_noted(self):
+        def commits(_):
+            self.commit_of("meanwhile")
+            return True
+
+        self.patch("run", commits)
+        self.assertIn("edits passed, and is not noted", self.said("edits"))
+        self.assertEqual(self.noted(), {})
+
     def test_a_part_that_was_stopped_continues(self):
         self.fails_at = 3
         self.said("soak", status=1)

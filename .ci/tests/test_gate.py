@@ -1,5 +1,6 @@
 """Tests of .ci/run, .ci/quick and .ci/all-unproved in a made-up repository, whose parts are scripts that note their calls and pass or fail as told."""
 import os
+import re
 import shutil
 import signal
 import subprocess
@@ -31,7 +32,7 @@ echo "$name${*:+ $*}" >>"$top/calls"
 status=0
 file=$top/status/${name//\\//+}
 [ ! -e "$file" ] || status=$(cat "$file")
-if [ "$status" = waits ]; then echo waits >"$top/waits"; sleep 600 & wait; fi
+if [ "$status" = waits ]; then echo waits >"$top/waits"; exec sleep 600; fi
 [ "$*" = --take-back ] || if [ "$status" = 0 ]; then echo "1 passed, 0 failed"; else echo "0 passed, 1 failed"; fi
 exit "$status"
 """
@@ -54,6 +55,7 @@ class Gates(unittest.TestCase):
         for name in ("edits-passed", "mutants-caught"):
             self.write(f".ci/state/{name}", "as it was\n")
         os.makedirs(f"{self.top}/status")
+        os.makedirs(f"{self.top}/tmp")
         git = ["git", "-c", "user.name=a", "-c", "user.email=a@b"]
         subprocess.run([*git, "init", "-q", self.top], check=True)
         subprocess.run([*git, "-C", self.top, "add", ".ci/state"], check=True)
@@ -77,6 +79,7 @@ class Gates(unittest.TestCase):
 
     def start(self, *words, tools="tools:"):
         environment = dict(os.environ, PATH=f"{self.top}/{tools}{os.environ['PATH']}" if tools else "/usr/bin:/bin")
+        environment["TMPDIR"] = f"{self.top}/tmp"
         return subprocess.Popen(
             words,
             cwd=self.top,
@@ -94,7 +97,33 @@ class Gates(unittest.TestCase):
             os.remove(f"{self.top}/calls")
         with self.start(*words, **more) as ran:
             said = ran.communicate(timeout=PATIENCE)[0]
+        self.assertEqual(os.listdir(f"{self.top}/tmp"), [], "nothing is left")
         return ran.returncode, said.rstrip("\n").split("\n")
+
+    def stopped(self, gate, name, number):
+        """The status of a gate that is sent a signal while the part of that name waits."""
+        self.comes_to(name, "waits")
+        if os.path.exists(f"{self.top}/calls"):
+            os.remove(f"{self.top}/calls")
+        with self.start(gate) as ran:
+            end = time.monotonic() + PATIENCE
+            while not os.path.exists(f"{self.top}/waits") and time.monotonic() < end:
+                time.sleep(0.01)
+            os.killpg(ran.pid, number)  # as a session ends all that the gate started
+            ran.communicate(timeout=PATIENCE)
+        os.remove(f"{self.top}/waits")
+        self.comes_to(name, 0)
+        return ran.returncode
+
+    def parts_with_a_time(self, gate):
+        """The commands that the gate ends after a time, each with it."""
+        self.write("tools/timeout", f'#!/bin/sh\necho "$*" >>{self.top}/times\nshift 3\nexec "$@"\n', 0o755)
+        self.assertEqual(self.played(gate)[0], 0)
+        with open(f"{self.top}/times", encoding="utf-8") as it:
+            return {line.split(" ", 3)[3]: line.split()[:3] for line in it.read().splitlines()}
+
+
+ENDS = ((signal.SIGTERM, 143), (signal.SIGINT, 130), (signal.SIGHUP, 129))
 
 
 class Run(Gates):
@@ -171,21 +200,39 @@ class Run(Gates):
         )
 
     def test_a_gate_that_is_stopped_takes_the_edits_back(self):
-        for name, times in (("tools/rt", 1), ("look/test", 2)):
-            self.comes_to(name, "waits")
-            if os.path.exists(f"{self.top}/calls"):
-                os.remove(f"{self.top}/calls")
-            with self.start(".ci/run") as ran:
-                end = time.monotonic() + PATIENCE
-                while not os.path.exists(f"{self.top}/waits") and time.monotonic() < end:
-                    time.sleep(0.01)
-                os.killpg(ran.pid, signal.SIGTERM)  # as a session ends all that the gate started
-                ran.communicate(timeout=PATIENCE)
-            os.remove(f"{self.top}/waits")
-            self.assertEqual(ran.returncode, 143)
+        for name, times, (number, status) in (
+            ("tools/rt", 1, ENDS[0]),
+            ("look/test", 2, ENDS[0]),
+            ("tools/rt", 1, ENDS[1]),
+            ("tools/rt", 1, ENDS[2]),
+        ):
+            self.assertEqual(self.stopped(".ci/run", name, number), status)
             # once at the end, and once after proofs that ended; a part that was just starting may do so too, or note its call
             self.assertGreaterEqual(self.calls().count(".ci/edits --take-back"), times)
-            self.comes_to(name, 0)
+
+    def test_parts_that_may_hang_have_an_end(self):
+        """After twenty or thirty minutes, a minute later they are killed."""
+        long = {"mount/test", ".ci/installed/packages", ".ci/installed/reproducible"}
+        wanted = {"look/test-check": ["-k", "60", "1200"], **{name: ["-k", "60", "1800"] for name in long}}
+        self.assertEqual(self.parts_with_a_time(".ci/run"), wanted)
+
+    def test_the_time_is_said_after_the_proofs_and_at_the_end(self):
+        lines = self.played(".ci/run")[1]
+        form = r"(.+): \d+ minutes on \d+ processors, processor time \d+m[\d.]+s \d+m[\d.]+s \(user, system\)"
+        found = [match[1] for match in (re.fullmatch(form, line) for line in lines) if match]
+        self.assertEqual(found, ["proofs, edits and programs", "the whole gate"])
+
+    def test_what_the_prover_says_is_shown_and_what_the_edits_say(self):
+        self.write("tools/rt", "#!/bin/sh\necho proved one; echo '7 passed, 0 failed'\n", 0o755)
+        self.write(".ci/edits", "#!/bin/sh\n[ $1 != --note ] || { echo told by edits >&2; [ -s $2 ]; }\n", 0o755)
+        status, lines = self.played(".ci/run")
+        self.assertEqual(status, 0, lines)
+        self.assertIn("proved one", lines)
+        self.assertIn("told by edits", lines)
+        self.write(".ci/edits", "#!/bin/sh\n[ $1 != --lay ] || exit 1\n", 0o755)
+        os.remove(f"{self.top}/calls")
+        self.assertEqual(self.played(".ci/run")[0], 1)
+        self.assertNotIn(".ci/style", self.calls(), "nothing begins if edits can't be laid")
 
     def test_without_the_kit_nothing_begins(self):
         status, lines = self.played(".ci/run", tools="")
@@ -218,6 +265,19 @@ class Quick(Gates):
             {call.split()[0] for call in calls[8:]}, {".ci/promised", "bindings/test", "look/test", "mount/test"}
         )
         self.assertEqual(lines[-1], "12 passed, 0 failed")
+
+    def test_it_ends_by_a_signal(self):
+        for number, status in ENDS:
+            self.assertEqual(self.stopped(".ci/quick", ".ci/unproved", number), status)
+            self.assertNotIn("bindings/build", self.calls())
+
+    def test_short_runs_are_of_these_tests(self):
+        self.quick()
+        calls = {call.split()[0]: call.split()[1:] for call in self.calls()}
+        self.assertEqual(calls["look/test"], ["state", "test_history"])
+        self.assertEqual(calls["mount/test"], ["files", "values", "controllers", "events", "attributes"])
+        of_python = ["checks", "typed", "clients", "mounted", "test_calls", "test_errors", "test_mounted"]
+        self.assertEqual(calls["bindings/test"], of_python)
 
     def test_what_is_not_built_is_made_without_proofs(self):
         for name in ("crates/cgreplay/out/cgreplay", "crates/c_library/out/libc_library.a"):
@@ -301,6 +361,15 @@ class AllUnproved(Gates):
         self.assertEqual(calls[-1], "mount/test", "it runs alone")
         self.assertEqual(lines[-1], f"{len(calls)} passed, 0 failed")
         self.assertIn("  the proofs, and the edits that the prover refuses: skipped, .ci/run has them", lines)
+
+    def test_it_ends_by_a_signal(self):
+        for number, status in ENDS:
+            self.assertEqual(self.stopped(".ci/all-unproved", "try", number), status)
+            self.assertNotIn(".ci/style", self.calls())
+
+    def test_parts_that_may_hang_have_an_end(self):
+        wanted = {"look/test-check": ["-k", "60", "1200"], "mount/test": ["-k", "60", "1800"]}
+        self.assertEqual(self.parts_with_a_time(".ci/all-unproved"), wanted)
 
     def test_without_what_try_makes_the_other_tests_run(self):
         self.comes_to("try", 1)

@@ -9,6 +9,7 @@ import unittest
 
 TOP = os.path.dirname(os.path.dirname(os.path.dirname(os.path.realpath(__file__))))
 HEADER = "bindings/c/makhloeum.h"
+LIBRARY, SONAME = "bindings/python/makhloeum/_library.py", "bindings/c/tests/soname.c"
 TRACE = ".ci/refused/traces/every_file.trace"
 
 
@@ -19,7 +20,8 @@ class Generate(unittest.TestCase):
         named = re.search(r"TARGETS = \((.*?)\n\)", self.read("generate", TOP), re.S)[1] + f'"{TRACE}"'
         generating = [f"generating/{name}" for name in os.listdir(os.path.join(TOP, "generating"))]
         sources = [path for path in generating if path.endswith(".py")]
-        for path in ("generate", *sources, "crates/word_tables/stdout", *re.findall(r'"(.+?)"', named)):
+        read = ("generate", "crates/word_tables/stdout", ".ci/state/promised")
+        for path in (*read, *sources, *re.findall(r'"(.+?)"', named)):
             os.makedirs(os.path.dirname(os.path.join(self.top, path)), exist_ok=True)
             shutil.copy(os.path.join(TOP, path), os.path.join(self.top, path))
 
@@ -68,6 +70,66 @@ class Generate(unittest.TestCase):
         self.assertIn('\t{ "pids.new", false, 0444 },\n', self.read("look/tests/check/faulty.c"))
         self.assertIn('    (File::PidsNew, "pids.new", false),\n', self.read("evidence/bench/plain/lines.rs"))
         self.assertIn("`.current`, `.new`, `.peak`", self.read("README.md"))
+
+    def add_call(self, declared, page="man/mk_current.3"):
+        """Declares a call in the header, and names it on the page."""
+        self.replace(HEADER, "uint32_t mk_limit(", f"{declared}\nuint32_t mk_limit(")
+        name = re.search(r"mk_\w+", declared)[0]
+        self.replace(page, "\nmk_current, mk_peak,", f"\nmk_current, {name}, mk_peak,")
+
+    def test_a_new_call_of_c_reaches_python_and_its_page(self):
+        self.add_call("uint32_t mk_level(mk_handle *h,\n\tconst char *path, uint64_t *value, mk_info *info);")
+        status, said = self.run_generate()
+        self.assertEqual((status, said), (0, f"wrote {LIBRARY}\nwrote man/mk_current.3"))
+        self.assertIn('        "mk_level": (number, [handle, text, count, info]),\n', self.read(LIBRARY))
+        wanted = '.BI "uint32_t mk_level(mk_handle *" h ", const char *" path ", uint64_t *" value ","\n.BI "    mk_info *" info );\n'
+        self.assertIn(wanted, self.read("man/mk_current.3"))
+
+    def test_a_call_without_parameters_and_a_pointer_that_is_returned(self):
+        self.add_call("const char *mk_level(void);")
+        self.run_generate()
+        self.assertIn('        "mk_level": (text, []),\n', self.read(LIBRARY))
+        self.assertIn(".B const char *mk_level(void);\n", self.read("man/mk_current.3"))
+
+    def test_a_type_without_one_in_python_is_an_error(self):
+        self.add_call("uint32_t mk_level(mk_handle *h, double *value);")
+        said = f"{HEADER}: mk_level has a `double *`, for which generating/calls.py has no type of Python"
+        self.assertEqual(self.run_generate("--check"), (1, said))
+
+    def test_a_page_that_names_no_call_is_an_error(self):
+        self.replace("man/mk_current.3", "\nmk_current, mk_peak,", "\nmk_current, mk_level, mk_peak,")
+        said = "man/mk_current.3 names mk_level, which bindings/c/makhloeum.h doesn't declare"
+        self.assertEqual(self.run_generate("--check"), (1, said))
+
+    def test_the_soname_stands_for_what_is_stored(self):
+        declared = "uint32_t mk_peak(mk_handle *h, const char *path, uint64_t *value, mk_info *info)"
+        self.replace(HEADER, declared, declared.replace("uint64_t", "uint32_t"))
+        self.assertEqual(self.run_generate()[1], f"wrote {LIBRARY}\nwrote man/mk_current.3")
+        self.replace(".ci/state/promised", declared, declared.replace("uint64_t", "uint32_t"))
+        self.assertEqual(self.run_generate()[1], f"wrote {SONAME}")
+        self.assertIn(
+            "\tCALL(mk_peak, uint32_t, mk_handle *, const char *, uint32_t *, mk_info *);\n", self.read(SONAME)
+        )
+
+    def test_a_new_number_of_a_group_reaches_the_lists_of_tests(self):
+        calls, row = "generating/calls.py", '    ("peak", "count", "pids.peak", 2),\n'
+        self.replace(calls, row, row + row.replace("peak", "level").replace("count", "limit"))
+        self.run_generate()
+        for path, line in (
+            ("bindings/c/tests/check.h", '\t{ "level", .count = mk_level }, /* pids.level */\n'),
+            ("bindings/tests/models/driver.c", '\t{ "level", .count = mk_level }, /* pids.level */\n'),
+            ("bindings/tests/models/driver.py", '    "level": lambda h, path: limit(h.level(path)),\n'),
+            ("bindings/tests/models/draw.py", '    "level": 2,\n'),
+            ("bindings/tests/models/draw.py", '    *("current", "peak", "level", "limit", "populated"),\n'),
+            ("bindings/tests/models/go/main.go", '\tcase "level":\n\t\treturn limit(h.Level(w[0]))\n'),
+            ("bindings/python/tests/test_errors.py", '    "mk_level": (lambda h: h.level("/a"), "level /a"),\n'),
+            ("bindings/python/tests/test_documented.py", '    "level": [(("/c",), "NoGroup"), (("/",), "NoFile")],\n'),
+            (
+                "bindings/go/tables_test.go",
+                '\t"level":     func(h *Hierarchy, path string) error { _, _, err := h.Level(path); return err },\n',
+            ),
+        ):
+            self.assertIn(line, self.read(path))
 
     def test_a_file_without_parts_is_written_whole(self):
         whole = self.read(TRACE)

@@ -88,6 +88,83 @@ fn again(one: &Node<Global>) {
 """
 
 
+MORE = """pub type Alias<A> = Node<A>;
+
+pub struct GuardRail {
+    pub node: Node<Global>,
+}
+
+pub struct NodeGuard<A: Allocator>(A);
+
+impl GuardRail {
+    pub fn copy(&self) -> u8 {
+        0
+    }
+}
+
+impl<A: Allocator> NodeGuard<A> {
+    pub fn copy(&self) -> u8 {
+        0
+    }
+
+    pub fn text(&self) -> Text<A> {
+        0
+    }
+}
+
+impl<A: Allocator> Node<A> {
+    pub fn new(alloc: A) -> Self {
+        Self::new(alloc).copy(alloc);
+    }
+}
+
+pub fn make() -> Text<Global> {
+    0
+}
+"""
+
+# each line with the type whose function it calls; None where the text doesn't tell, and - for a type without such a function
+LINES = (
+    ("alias.copy(alloc);", "Node"),
+    ("rail.copy(alloc);", "GuardRail"),
+    ("rail.node.text.copy(alloc);", "Text"),
+    ("guard.copy(alloc);", None),
+    ("guard.text().copy(alloc);", "Text"),
+    ("list[0].copy(alloc);", "Node"),
+    ("list[1..].copy(alloc);", "-"),
+    ("list[1..][0].copy(alloc);", "Node"),
+    ("boxed.copy(alloc);", "Node"),
+    ("place.text.copy(alloc);", None),
+    ("make().copy(alloc);", "Text"),
+    ("unheard(1).copy(alloc);", None),
+    ("Node::new(alloc).copy(alloc);", "Node"),
+    ("low::tree::Node::new(alloc).copy(alloc);", "Node"),
+    ("Place::Below(made).copy(alloc);", None),
+    ("let alias = Text { text, children }; alias.copy(alloc);", "Text"),
+    ("let alias = GuardRail::Named { text }; alias.copy(alloc);", "GuardRail"),
+    ("maybe.unwrap().copy(alloc);", "Text"),
+    ("maybe.as_ref().unwrap().copy(alloc);", "Text"),
+    ("maybe?.copy(alloc);", "Text"),
+    ("maybe.copy(alloc);", "-"),
+    ("texts.pop()?.copy(alloc);", "Text"),
+    ("texts.iter().next()?.copy(alloc);", "Text"),
+    ("alias.clone()?.copy(alloc);", "Node"),
+    ("for at in 0..alias.copy(alloc).len() {}", "Node"),
+    ("texts.iter().map(|alias| alias.copy(alloc));", None),
+    ("let (alias, other) = make(); alias.copy(alloc);", None),
+    ("for (alias, other) in pairs { alias.copy(alloc) }", None),
+    ("for alias in texts.iter() { alias.copy(alloc) }", "Text"),
+    ("for alias in number { alias.copy(alloc) }", None),
+    ("let alias: Text<Global> = alias.made(); alias.copy(alloc);", "Text"),
+    ("let mut alias = make(); alias.copy(alloc);", "Text"),
+    ("let Ok(alias) = tried; alias.copy(alloc);", "Text"),
+    ("let Err(alias) = tried; alias.copy(alloc);", "Node"),
+    ("if *alias.copy(alloc) == &mut 1 {}", "Node"),
+    ("call(&alias.copy(alloc));", "Node"),
+    ("number.copy(alloc);", "-"),
+)
+
+
 class Receivers(unittest.TestCase):
     TEXTS = {"crates/low/src/tree.rt": TREE, "crates/high/src/caller.rt": CALLER}
 
@@ -119,6 +196,43 @@ class Receivers(unittest.TestCase):
         path = "crates/low/src/tree.rt"
         self.assertEqual(self.lines("copy", "Text", True, path), ["let text = self.text.copy(alloc)?;"])
         self.assertEqual(self.lines("copy", "Node", True, path), ["child.copy(alloc)?;"])
+
+    def test_each_form_of_a_receiver(self):
+        takes = "alias: &Alias<Global>, rail: GuardRail, guard: NodeGuard<Global>, list: &[Node<Global>], number: u64"
+        takes += ", mut texts: Vec<Text<Global>>, boxed: Box<Node<Global>>, place: &Place<Global>"
+        takes += ", maybe: Option<Text<Global>>, tried: Result<Text<Global>, Node<Global>>"
+        for line, owner in LINES:
+            caller = f"fn call({takes}) -> u8 {{\n    {line}\n}}\n"
+            texts = {**self.TEXTS, "crates/low/src/more.rt": MORE, "crates/high/src/caller.rt": caller}
+            for one in ("Node", "Text", "GuardRail"):
+                found = receivers.Rattle(texts).calls("crates/high/src/caller.rt", "copy", one)
+                self.assertEqual(found, {2: owner and owner == one}, (line, one))
+
+    def test_the_own_type_of_a_function(self):
+        texts = {**self.TEXTS, "crates/low/src/more.rt": MORE}
+        line = MORE.split("\n").index("        Self::new(alloc).copy(alloc);") + 1
+        for one, is_it in (("Node", True), ("Text", False)):
+            self.assertEqual(receivers.Rattle(texts).calls("crates/low/src/more.rt", "copy", one), {line: is_it})
+
+    def test_a_type_is_that_of_the_same_crate(self):
+        """Two crates have a struct of one name; in a third one nothing tells which is meant."""
+        of = "pub struct Pair<A: Allocator> {\n    it: %s<A>,\n}\n"
+        caller = "fn call(pair: &Pair<Global>) {\n    pair.it.copy(alloc);\n}\n"
+        texts = {**self.TEXTS, "crates/one/src/pair.rt": of % "Node", "crates/two/src/pair.rt": of % "Text"}
+        for crate, answer in (("one", True), ("two", False), ("high", None)):
+            path = f"crates/{crate}/src/caller.rt"
+            found = receivers.Rattle({**texts, path: caller}).calls(path, "copy", "Node")
+            self.assertEqual(found, {2: answer}, crate)
+
+    def test_where_a_list_is_cut(self):
+        for text, found in (
+            ("a, b", ["a", "b"]),
+            ("F: Fn(u8, u8) -> u8, b", ["F: Fn(u8, u8) -> u8", "b"]),
+            ("a => <b>, c => d,", ["a => <b>", "c => d"]),
+            ("[a, b], (c, d), {e, f}, G<h, i>,", ["[a, b]", "(c, d)", "{e, f}", "G<h, i>"]),
+            ("", []),
+        ):
+            self.assertEqual(receivers.parts(text), found, text)
 
     def test_traits(self):
         self.assertEqual(self.lines("step", "Walk", True), ["walk.step();", "node.step();"])
@@ -165,6 +279,27 @@ class ObjectsOfOtherLanguages(unittest.TestCase):
         of = objects.Objects(self.TEXTS)
         self.assertEqual(of.calls("a.py", "peak", "Tree"), {3: True, 7: False})
         self.assertEqual(of.calls("b.py", "peak", "Tree"), {2: True, 3: None, 5: True, 7: False, 8: True})
+
+    def test_an_inherited_method_is_that_of_the_class_that_defines_it(self):
+        of = objects.Objects(
+            {
+                **self.TEXTS,
+                "c.py": "class Oak(a.Tree, Wood):\n    def cut(self):\n        self.peak()\n\nclass Bonsai(Oak, Other):\n    pass\n\n"
+                "class Round(Round):\n    pass\n\ndef g(oak: Oak, small: Bonsai, round: Round):\n    oak.peak()\n    small.peak()\n"
+                "    round.peak()\n",
+            }
+        )
+        for owner, name, wanted in (
+            ("Tree", "peak", "Tree"),
+            ("Oak", "peak", "Tree"),
+            ("Bonsai", "peak", "Tree"),
+            ("Bonsai", "cut", "Oak"),
+            ("Oak", "plant", None),
+            ("Round", "peak", None),
+        ):
+            self.assertEqual(of.definer(owner, name), wanted, owner)
+        self.assertEqual(of.calls("c.py", "peak", "Tree"), {3: True, 12: True, 13: True, 14: None})
+        self.assertEqual(of.calls("c.py", "peak", "Other"), {3: False, 12: False, 13: False, 14: None})
 
     def test_go(self):
         of = objects.Objects(self.TEXTS)

@@ -25,6 +25,8 @@ alone) sleep "1000.$(cat pid)" &
   if grep -qsaF -f sleeper /proc/[0-9]*/cmdline; then echo '0 passed, 1 failed'; else echo '1 passed, 0 failed'; fi ;;
 one) if grep -q 'first right' mount/src/a.c; then echo '1 passed, 0 failed'; else echo '0 passed, 1 failed'; exit 1; fi ;;
 bad) echo '0 passed, 1 failed'; exit 1 ;;
+hangs) grep -q 'first right' mount/src/a.c || sleep 600; echo '1 passed, 0 failed' ;;
+built) if [ -e bindings/out/it ] && [ -e bindings/go/libmakhloeum.a ] && [ -e crates/low/it ]; then echo '1 passed, 0 failed'; else echo '0 passed, 1 failed'; fi ;;
 *) echo '0 passed, 0 failed' ;;
 esac
 """
@@ -311,8 +313,31 @@ class Mutants(MadeUp):
     def files(self):
         return {path: path.read_bytes() for path in pathlib.Path(self.top, "mount").rglob("*") if path.is_file()}
 
+    def test_a_test_that_does_not_end_has_failed(self):
+        self.patch("SECONDS", 3)
+        self.write("mount/tests/hangs.py", "a test\n")
+        self.mutant("a", test="hangs")
+        self.assertEqual(self.run_with("a"), ["mutants: mount/a: caught by hangs", "1 passed, 0 failed"])
+
+    def test_a_mutant_is_taken_back_before_the_next_one(self):
+        self.mutant("a")
+        self.mutant("b", "second right;", "second other;")
+        self.mutant("c", "third right;", "third other;", file="mount/src/b.c")
+        with mock.patch.dict(os.environ, LANES="1"):
+            said = self.run_with(status=1)
+        told = ["a: caught by one", "b: NOT CAUGHT by one", "c: NOT CAUGHT by one"]
+        self.assertEqual(said, [*(f"mutants: mount/{it}" for it in told), "1 passed, 2 failed"])
+
+    def test_a_test_has_what_was_built_and_the_crates(self):
+        self.write(".gitignore", "out/\n*.a\n")
+        self.write("bindings/go/a.go", "package a\n")
+        for path in ("bindings/out/it", "bindings/go/libmakhloeum.a", "crates/low/it", "mount/tests/built.py"):
+            self.write(path, "")
+        self.mutant("a", test="built")
+        self.assertIn("mutants: mount/a: NOT CAUGHT by built", self.run_with(status=1))
+
     def test_wrong_words(self):
-        for words in (["--no-such"], ["nobody"], ["--most"]):
+        for words in (["--no-such"], ["nobody"], ["--most"], ["--most", "x"], ["--check", "x"]):
             self.run_with(*words, status=2)
 
 

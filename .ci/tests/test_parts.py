@@ -1,8 +1,10 @@
 """Tests of .ci/parts: what a part that failed counts as, whatever it said, and what the end says of it."""
 import os
 import re
+import shutil
 import subprocess
 import tempfile
+import time
 import unittest
 
 TOP = os.path.dirname(os.path.dirname(os.path.dirname(os.path.realpath(__file__))))
@@ -21,6 +23,8 @@ skips() { echo "skips: skipped, it is missing"; echo "0 passed, 0 failed"; }
 says_why() { echo "why: a file is missing"; seq 2000; echo "of a check: FAILED"; echo "because: no room"; seq 2000; return 1; }
 says_why_first() { echo "why: another check: FAILED"; says_why; }
 says_why_last() { seq 2000; echo "its last words"; return 1; }
+passes_after_others() { echo "1 passed, 0 failed"; echo "2 passed, 0 failed"; }
+says_errors() { echo "an error" >&2; return 1; }
 says_much() { yes "long: FAILED $(printf '%%0900d' 0)" | head -n 300; return 1; }
 %s
 say_end
@@ -31,17 +35,23 @@ class Parts(unittest.TestCase):
     def gate(self, *parts):
         """The status of a gate with these parts, and its lines."""
         lines = "\n".join(f'part "{it}" {it}' for it in parts)
-        with tempfile.TemporaryDirectory() as work:
-            ran = subprocess.run(
-                ["bash", "-c", GATE % f"{lines}\nend_parts", "gate", work, TOP],
-                stdin=subprocess.DEVNULL,
-                stdout=subprocess.PIPE,
-                stderr=subprocess.STDOUT,
-                text=True,
-                timeout=600,
-                check=False,
-            )
-        return ran.returncode, ran.stdout.rstrip("\n").split("\n")
+        return self.played(f"{lines}\nend_parts")[:2]
+
+    def played(self, lines, **environment):
+        """The status and the lines of a gate of these lines, and the folder that it worked in."""
+        work = tempfile.mkdtemp()
+        self.addCleanup(shutil.rmtree, work)
+        ran = subprocess.run(
+            ["bash", "-c", GATE % lines, "gate", work, TOP],
+            env=dict(os.environ, **environment),
+            stdin=subprocess.DEVNULL,
+            stdout=subprocess.PIPE,
+            stderr=subprocess.STDOUT,
+            text=True,
+            timeout=600,
+            check=False,
+        )
+        return ran.returncode, ran.stdout.rstrip("\n").split("\n"), work
 
     def ends(self, parts, status, failures, counts):
         got, lines = self.gate(*parts)
@@ -52,6 +62,48 @@ class Parts(unittest.TestCase):
 
     def test_what_passes_is_added_up(self):
         self.ends(["passes", "passes", "says_nothing"], 0, "", "6 passed, 0 failed")
+        self.ends(["passes_after_others"], 0, "", "2 passed, 0 failed")
+
+    def test_what_a_part_says_follows_its_name(self):
+        lines = self.ends(["says_errors"], 1, "says_errors", "0 passed, 1 failed")
+        self.assertEqual(lines[:2], ["== says_errors", "an error"])
+
+    def test_a_part_is_a_command_with_its_words(self):
+        status, lines, _ = self.played(
+            """part "some words" printf '%s\\n' 'a b' c\nend_parts\npart "no input" cat\nend_parts"""
+        )
+        self.assertEqual((status, lines[:4]), (0, ["== some words", "a b", "c", "== no input"]))
+
+    def test_a_command_does_not_ignore_the_signals_of_a_keyboard(self):
+        for name in ("INT", "QUIT"):
+            lines = f"""part "it is sent one" sh -c 'ulimit -c 0; kill -{name} $$; echo it goes on'\nend_parts"""
+            status, said, _ = self.played(lines)
+            self.assertEqual((status, "it goes on" in said), (1, False), said)
+
+    def test_a_part_is_ended_with_its_gate(self):
+        part = """part "waits" bash -c 'trap "echo ended >>$1/log; exit" TERM; echo began >>$1/log; while :; do sleep 0.01; done' part "$work" """
+        wait = 'until [ -e "$work/log" ]; do sleep 0.01; done\nexit 5'
+        status, _, work = self.played(f"{part}\n{wait}")
+        self.assertEqual(status, 5)
+        said, end = "", time.monotonic() + 600
+        while said != "began\nended\n" and time.monotonic() < end:
+            time.sleep(0.01)
+            with open(f"{work}/log", encoding="ascii") as it:
+                said = it.read()
+        self.assertEqual(said, "began\nended\n")
+
+    def test_one_part_at_a_time_installs_packages(self):
+        with tempfile.TemporaryDirectory() as tools:
+            at = f"{tools}/apt-get"
+            with open(at, "w", encoding="ascii") as it:
+                it.write(f"#!/bin/sh\nmkdir {tools}/busy || exit 100\nsleep 0.2\nrmdir {tools}/busy\necho $0: $#: $*\n")
+            os.chmod(at, 0o755)
+            parts = "\n".join(f'part "{it}" apt-get install "{it} it"' for it in "abc")
+            status, lines, _ = self.played(f"{parts}\nend_parts", PATH=f"{tools}:{os.environ['PATH']}")
+        self.assertEqual(status, 0, lines)
+        self.assertEqual(
+            sorted(line for line in lines if line.startswith(at)), [f"{at}: 2: install {it} it" for it in "abc"]
+        )
 
     def test_what_failed_is_added_up_and_named(self):
         self.ends(["fails"], 1, "fails", "2 passed, 1 failed")

@@ -92,6 +92,39 @@ class Unproved(MadeUp):
         lines = self.tried(status=1)[1]
         self.assertEqual((lines[-1], "another" in lines), ("0 passed, 1 failed", True))
 
+    def test_a_change_of_a_stored_run_is_tried(self):
+        self.write("crates/beside/src/lib.rt", "// no test any more\n")
+        self.git("add", "-A")
+        self.git("commit", "--quiet", "--message", "b")
+        self.assertEqual(self.tried()[0], [])
+        self.write("crates/program/says", "another\n")
+        for name in ("stdout", "args", "data/a", "stdin", "status"):
+            self.write(f"crates/program/{name}", "another\n")
+            self.assertEqual([call.split()[0] for call in self.tried()[0]], ["program"], name)
+            self.git("add", "-A")
+            self.git("commit", "--quiet", "--message", name)
+            os.remove(f"{self.top}/calls")
+
+    def test_a_program_that_fails_or_does_not_end_is_told(self):
+        self.write("tools/rt", '#!/bin/sh\necho "out"\necho why >&2\nexit 1\n', 0o755)
+        lines = self.tried("--crates", status=1)[1]
+        self.assertEqual((lines[-1], lines.count("why")), ("0 passed, 4 failed", 4))
+        self.patch("SECONDS", 1)
+        self.write("tools/rt", "#!/bin/sh\nexec sleep 100\n", 0o755)
+        lines = self.tried("--crates", status=1)[1]
+        self.assertEqual((lines[-1], lines.count("no end within 1 seconds")), ("0 passed, 4 failed", 4))
+
+    def test_it_compares_with_the_main_branch_of_the_origin_if_there_is_one(self):
+        self.git("branch", "mine")
+        self.write("crates/low/src/lib.rt", f"{TEST}// more\n")
+        self.git("add", "-A")
+        self.git("commit", "--quiet", "--message", "b")
+        self.git("update-ref", "refs/remotes/origin/main", "mine")
+        self.assertEqual([call.split()[0] for call in self.tried()[0]], ["high", "low"])
+        self.git("update-ref", "refs/remotes/origin/main", "main")
+        os.remove(f"{self.top}/calls")
+        self.assertEqual(self.tried()[0], [])
+
     def test_each_crate_is_tried_if_asked(self):
         calls, lines = self.tried("--crates")
         self.assertEqual(

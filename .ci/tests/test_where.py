@@ -293,6 +293,7 @@ class OfAMadeUpRepository(unittest.TestCase):
         "crates/low_tests/data/others.cases": "# shows: Other::add\nadd 1 => 1\n",
         "crates/low/proofs/sum/Sum/add/Answers.antt": "proof\n",
         "python/tree.py": "class Tree:\n    def peak(self):\nMOST = 9\nclass Other:\n    def peak(self):\n",
+        "python/oak.py": "class Wood:\n    def cut(self):\nclass Oak(Wood):\n    def grow(self):\n        self.cut()\n",
         "python/tests/test_tree.py": "assert h.peak() == 1 and peak == 2\n",
         "go/tree.go": "package tree\ntype Limit uint32\n\tNoLimit Limit = 5\nfunc (t *Tree) peak() int { return 0 }\nvar x = 32\n",
         "c/peaks.h": "uint32_t mk_peak(mk_handle *h);\ntypedef struct mk_info {\nenum { TWO = 2, THREE };\n"
@@ -348,6 +349,10 @@ class OfAMadeUpRepository(unittest.TestCase):
                 "documents   README.md:1",
             ],
         )
+
+    def test_a_method_that_a_class_inherits(self):
+        wanted = ["defined     python/oak.py:2 def cut(self):", "code        python/oak.py:2,5"]
+        self.assertEqual(self.screen("Oak.cut"), ["Oak.cut", *wanted])
 
     def test_definitions_of_each_language(self):
         for name, line in (
@@ -455,6 +460,12 @@ class OfFewAndOfMany(unittest.TestCase):
                 self.assertEqual(places, [(str(at), str(5 * at + 4)) for at in range(count)])
             else:
                 self.assertIn("mutants     mount/mutants/a.c.mutants 400 mutants", said)
+
+    def test_a_mutant_that_has_the_name_twice_is_counted_once(self):
+        block = "old: seldom();\nnew: seldom(1);\ntest: t\n"
+        text = "file: mount/src/a.c\n" + "".join(f"\n== a_mutant_of_that_source_{at}\n{block}" for at in range(400))
+        said = "\n".join(where.Search("seldom", {"mount/mutants/a.c.mutants": text}).screen())
+        self.assertIn("mutants     mount/mutants/a.c.mutants 400 mutants", said)
 
     def test_many_edits_of_many_crates_are_counted(self):
         block = "file: src/a.rt\nold: seldom\nnew: often\n"
