@@ -33,6 +33,7 @@ void *__wrap_realloc(void *at, size_t size)
 enum {
 	FORKED = 40, /* the processes and records for which the tables have room */
 	SHORT_TEXT = 1, /* allocations for an answer of up to eight bytes */
+	REMOVED = 1, /* allocations for the attributes that the record of a removal keeps */
 };
 
 static uint8_t answer[64];
@@ -66,10 +67,10 @@ static int room(void)
 static int commands(void)
 {
 	static const char *const lines[] = { "fork 1 2", "fork 1 3", "exit 2", "write /a pids.max 9",
-		"write /a cgroup.max.depth 9", "write /a cgroup.max.descendants 9", "write /a cgroup.kill 1", "rmdir /b",
-		"exit 3" };
+		"write /a cgroup.max.depth 9", "write /a cgroup.max.descendants 9", "write /a cgroup.kill 1", "exit 3" };
 	for (size_t i = 0; i < sizeof lines / sizeof *lines; i++)
 		CHECK(asks(lines[i]) == SHORT_TEXT);
+	CHECK(asks("rmdir /b") == SHORT_TEXT + REMOVED);
 	CHECK(asks("mkdir /b") > SHORT_TEXT); /* a group's memory */
 	return 0;
 }
