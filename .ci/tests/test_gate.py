@@ -81,7 +81,7 @@ class Gates(unittest.TestCase):
         environment = dict(os.environ, PATH=f"{self.top}/{tools}{os.environ['PATH']}" if tools else "/usr/bin:/bin")
         environment["TMPDIR"] = f"{self.top}/tmp"
         return subprocess.Popen(
-            words,
+            ["env", "--default-signal", *words],  # what these tests run in may ignore some, as nohup does
             cwd=self.top,
             env=environment,
             stdin=subprocess.DEVNULL,
@@ -110,7 +110,11 @@ class Gates(unittest.TestCase):
             while not os.path.exists(f"{self.top}/waits") and time.monotonic() < end:
                 time.sleep(0.01)
             os.killpg(ran.pid, number)  # as a session ends all that the gate started
-            ran.communicate(timeout=PATIENCE)
+            try:
+                ran.communicate(timeout=PATIENCE)
+            except subprocess.TimeoutExpired:
+                os.killpg(ran.pid, signal.SIGKILL)
+                raise
         os.remove(f"{self.top}/waits")
         self.comes_to(name, 0)
         return ran.returncode
