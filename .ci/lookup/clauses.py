@@ -111,8 +111,22 @@ def definitions_of(texts, crate):
         yield file, " ".join(head), found, {name: "\n".join(text) for name, text in texts_of.items()}
 
 
-def open_braces(lines):
-    return sum(line.count("{") - line.count("}") for line in lines)
+def contract_end(lines, at):
+    """Behind which line, counted from 0, the contract ends of the function that begins there: at its body, whose brace begins or ends
+    a line outside clauses, or with the semicolon of a trait's function."""
+    if lines[at].rstrip().endswith((";", "{", "}")):
+        return at + 1
+    depth = 0
+    for end in range(at + 1, len(lines)):
+        text = lines[end].strip()
+        if text.startswith("//"):
+            continue
+        if depth == 0 and (text.startswith(("{", "}")) or (text.endswith("{") and not CLAUSE.search(text))):
+            return end
+        depth += text.count("{") - text.count("}")
+        if depth == 0 and text.endswith(";"):
+            return end + 1
+    return len(lines)
 
 
 def clauses_in(contract):
@@ -147,17 +161,7 @@ def functions_of(texts, crate):
             elif line == "}":
                 owner, is_trait = None, False
             if start:
-                contract = [line]
-                for more in lines[at + 1 :] if not line.rstrip().endswith((";", "}")) else ():
-                    if more.strip() in ("{", "{ }", "{}") or more.startswith("}"):
-                        break
-                    contract += [more] if not more.lstrip().startswith("//") else []
-                    # outside clauses a semicolon ends the contract, and so does a brace at a line's end, which begins the body
-                    inside = open_braces(contract)
-                    if more.rstrip().endswith(";") and inside == 0:
-                        break
-                    if more.rstrip().endswith(" {") and inside == 1 and not CLAUSE.search(more):
-                        break
+                contract = [more for more in lines[at : contract_end(lines, at)] if not more.lstrip().startswith("//")]
                 is_public = (start[2] or "").strip() == "pub" or is_trait
                 one = Function(
                     crate,

@@ -3,6 +3,7 @@
 import functools
 import re
 
+from .clauses import contract_end
 from .definitions import FUNCTION
 
 CLAUSE = re.compile(r"^\s*(requires|ensures|ghost)\b|[≡≢→×λ∀∃≤ℕ↔∷⊥]")
@@ -60,11 +61,8 @@ def functions_of(text):
 
 def contract_of(lines, number):
     """The clauses of the function whose definition is that line, counted from 1, and the words that they have."""
-    clauses = []
-    for line in map(str.strip, lines[number - 1 :]):
-        if line in ("{", "{ }") or line.endswith(";") or (line.endswith("{") and not CLAUSE.search(line)):
-            break
-        clauses += [line] if line.startswith(("requires", "ensures")) else []
+    contract = map(str.strip, lines[number - 1 : contract_end(lines, number - 1)])
+    clauses = [line.removesuffix(";") for line in contract if line.startswith(("requires", "ensures"))]
     cited = set(re.findall(r"\w+", " ".join(clauses)))
     for place, items in re.findall(r"^ghost use Rattle\.(\w+\.specs\.\w+)\.\{(.*?)\};", "\n".join(lines), re.M):
         names = [item for item in re.findall(r"\w+", items) if item in cited]
