@@ -136,3 +136,13 @@ def without_folder(name, texts):
             if any(last == block.name for block in blocks(text)):
                 return last
     return name
+
+
+def tests_of(name, texts):
+    """What each mutant of that name, with its folder or without, changes, and the test that has to fail."""
+    folder, _, last = name.rpartition("/")
+    paths = [path for path in sorted(texts) if path.endswith(".mutants") and f"== {last}" in texts[path]]
+    found = [(folder_of(path)[0], block) for path in paths for block in blocks(texts[path]) if block.name == last]
+    return [
+        f"mutant of {block.source}: {at}/test {block.test} has to fail" for at, block in found if folder in ("", at)
+    ]

@@ -28,9 +28,7 @@ class Contracts(unittest.TestCase):
         for body in ("{}", "{ }", "{\n}"):
             text = f"pub fn whole()\n    ensures one {{ A }}\n    ensures two {{ B\n        → C }}\n{body}\n\n"
             text += f"pub fn other()\n    ensures three {{ D }}\n{body}\n"
-            self.assertEqual(
-                self.contract("states::whole", text), ["ensures one { A }", "ensures two { B"], repr(body)
-            )
+            self.assertEqual(self.contract("states::whole", text), ["ensures one { A }", "ensures two { B"], repr(body))
             self.assertEqual(self.contract("states::other", text), ["ensures three { D }"], repr(body))
 
     def test_a_function_in_one_line_or_without_clauses_has_no_contract(self):
@@ -75,6 +73,160 @@ class Contracts(unittest.TestCase):
     @staticmethod
     def is_clause(line):
         return line.lstrip().startswith(("requires", "ensures"))
+
+
+class Files(unittest.TestCase):
+    TEXTS = {
+        "crates/low/specs/State.antt": "-- A state.\nabbrev pub State : Type 0\n",
+        "crates/low/proofs/more/State.antt": "",
+        "docs/A.md": "`State.antt` has it.\n",
+    }
+
+    def test_a_file_of_definitions_by_its_name(self):
+        said = where.Search("State.antt", self.TEXTS).screen()
+        files = "files       low/proofs/more/State.antt; low/specs/State.antt"
+        self.assertEqual(said, ["State.antt", files, "documents   docs/A.md:1"])
+
+
+class Meanings(unittest.TestCase):
+    """Two files of definitions have the name `told`; each file of a crate means one of them by its import, another thing, or none."""
+
+    TEXTS = {
+        "crates/low/specs/One.antt": "abbrev pub told : ℕ\ntold = 1\nrecord Row : Type 0 where\n  pub most : ℕ\n",
+        "crates/low/specs/Two.antt": "abbrev pub told : ℕ\ntold = 2\n",
+        "crates/low/src/one.rt": "ghost use Rattle.low.specs.One.{told};\n\nfn first()\n    ensures { told }\n{}\n",
+        "crates/low/src/two.rt": "ghost use Rattle.low.specs.Two.{told};\n\nfn second()\n    ensures { told }\n{}\n",
+        "crates/low/src/none.rt": "fn third() {\n    told();\n    // as told\n    x.told = Two.told;\n}\n",
+        "crates/low/src/rows.rt": "fn fourth() {\n    x.most;\n}\n",
+        "crates/low/proofs/Ones.antt": "use Rattle.low.specs.One as one\nuse Rattle.low.specs.Two as two\nx = one.told\ny = two.told\n",
+        "crates/low/proofs/Named.antt": "use Rattle.low.specs.One.{told as other}\nuse Rattle.low.specs.Two.{told}\nx = told\n",
+        "crates/low/proofs/Whole.antt": "use Rattle.low.specs.One\nx = One.told\ny = Two.told\n",
+        "crates/low/must-fail-more/a.edit": "# breaks: One.told\nfile: src/one.rt\nold: told\nnew: tell\n",
+        "crates/low/must-fail-more/b.edit": "# breaks: Two.told\nfile: src/two.rt\nold: told\nnew: tell\n",
+        "crates/low_tests/data/a.cases": "# shows: One.told\ntold 1\n",
+        "docs/reference/low.md": "| `told` | one |\n",
+        "docs/A.md": "`One.told`, `Two.told`\n`Two.told`\nAs told.\n",
+        "python/a.py": "def told():\n    return told()\n",
+        "python/b.py": "a.told()\n",
+    }
+
+    def hits(self, name):
+        """The numbers of the lines of each file, by part."""
+        found = where.Search(name, self.TEXTS).hits
+        return {part: {path: sorted(at) for path, at in paths.items()} for part, paths in found.items() if paths}
+
+    def test_a_definition_with_its_file_has_its_own_uses(self):
+        self.assertEqual(
+            self.hits("One.told"),
+            {
+                "clauses": {"crates/low/src/one.rt": [1, 4]},
+                "specs": {"crates/low/specs/One.antt": [1, 2]},
+                "proofs": {
+                    "crates/low/proofs/Ones.antt": [3],
+                    "crates/low/proofs/Named.antt": [1],
+                    "crates/low/proofs/Whole.antt": [2],
+                },
+                "edits": {"crates/low/must-fail-more/a.edit": [1, 3]},
+                "tests": {"crates/low_tests/data/a.cases": [1]},
+                "documents": {"docs/A.md": [1], "docs/reference/low.md": [1]},
+                "perhaps": {
+                    "crates/low/src/none.rt": [3],
+                    "crates/low_tests/data/a.cases": [2],
+                    "docs/A.md": [3],
+                    "python/b.py": [1],
+                },
+            },
+        )
+
+    def test_the_other_of_that_name_has_the_others(self):
+        found = self.hits("Two.told")
+        self.assertEqual(found["clauses"], {"crates/low/src/two.rt": [1, 4]})
+        self.assertEqual(found["code"], {"crates/low/src/none.rt": [4]})
+        self.assertEqual(found["edits"], {"crates/low/must-fail-more/b.edit": [1, 3]})
+        self.assertEqual(found["documents"]["docs/A.md"], [1, 2])
+        proofs = {"Ones.antt": [4], "Named.antt": [2, 3], "Whole.antt": [3]}
+        self.assertEqual(found["proofs"], {f"crates/low/proofs/{name}": lines for name, lines in proofs.items()})
+
+    def test_a_field_may_be_meant_by_any_of_its_name(self):
+        found = self.hits("One.most")
+        self.assertEqual(
+            found, {"specs": {"crates/low/specs/One.antt": [4]}, "perhaps": {"crates/low/src/rows.rt": [2]}}
+        )
+
+    def test_the_bare_name_has_all_uses(self):
+        lines = sum(len(at) for paths in self.hits("told").values() for at in paths.values())
+        words = sum(len(re.findall(r".*\btold\b", text)) for text in self.TEXTS.values())
+        self.assertEqual(lines, words)
+
+    def test_of_this_repository_the_shell_s_status_is_not_the_replay_s(self):
+        hits = where.Search("Program.status_of", where.repository()).hits
+        crates = {
+            path.split("/")[1]
+            for part in ("code", "clauses", "specs", "laws", "proofs", "edits")
+            for path in hits[part]
+        }
+        self.assertEqual(crates, {"shell_laws", "shell_main"})
+
+
+class Mutants(unittest.TestCase):
+    TEXTS = {
+        "mount/mutants/a.c.mutants": "file: mount/src/a.c\n\n== a_b_is_late\nold: x\nnew: y\ntest: events\n",
+        "look/mutants/b.py.mutants": "file: look/b.py\n\n== a_b_is_late\nold: x\nnew: y\ntest: test_b::test_c\n",
+    }
+
+    def test_a_mutant_names_its_test(self):
+        said = [
+            f"  mutant of {it} has to fail"
+            for it in ("look/b.py: look/test test_b::test_c", "mount/src/a.c: mount/test events")
+        ]
+        self.assertEqual(where.Search("a_b_is_late", self.TEXTS).screen()[1:3], said)
+        self.assertEqual(where.Search("mount/a_b_is_late", self.TEXTS).screen()[1], said[1])
+        self.assertFalse([line for line in where.Search("x", self.TEXTS).screen() if "has to fail" in line])
+
+
+class Words(unittest.TestCase):
+    def said(self, *words):
+        said = io.StringIO()
+        texts = {"a.py": "tool --keep\n# -- told\n# --help, -- and --all\n"}
+        with mock.patch.object(where, "repository", lambda: texts), contextlib.redirect_stdout(said):
+            with contextlib.redirect_stderr(said):
+                return where.main([*words]), said.getvalue().split("\n")
+
+    def test_two_hyphens_end_the_options(self):
+        for words, title in (
+            (["--", "told"], "told"),
+            (["--", "--keep"], "--keep"),
+            (["--", "--help"], "--help"),
+            (["--all", "--", "--all"], "--all"),
+        ):
+            status, said = self.said(*words)
+            self.assertEqual((status, said[0], said[1][:17]), (0, title, "code        a.py:"), words)
+
+    def test_two_hyphens_alone_ask_for_nothing(self):
+        status, said = self.said("--")
+        self.assertEqual((status, said[0]), (2, where.__doc__.split("\n", maxsplit=1)[0]))
+
+
+class Unreadable(unittest.TestCase):
+    """Not even root may read a file system that another user has mounted."""
+
+    def test_what_cannot_be_read_is_passed_over(self):
+        with tempfile.TemporaryDirectory() as top:
+            for name in ("a.py", "b.py", "c/d.py"):
+                os.makedirs(os.path.dirname(f"{top}/{name}"), exist_ok=True)
+                with open(f"{top}/{name}", "w", encoding="utf-8") as it:
+                    it.write("told\n")
+            subprocess.run(["git", "init", "-q", top], check=True)
+            opened = open
+
+            def refusing(path, *words, **more):
+                if path in (f"{top}/b.py", f"{top}/c/d.py"):
+                    raise PermissionError(13, "Permission denied", path)
+                return opened(path, *words, **more)
+
+            with mock.patch.object(where, "ROOT", top), mock.patch("builtins.open", refusing):
+                self.assertEqual(where.repository()["a.py"], "told\n")
+                self.assertEqual(where.Search("told", where.repository()).screen()[1:], ["code        a.py:1"])
 
 
 if __name__ == "__main__":

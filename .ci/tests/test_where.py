@@ -389,6 +389,7 @@ class OfAMadeUpRepository(unittest.TestCase):
         at = "mount/a_birth_is_late (run/births.c.mutants"
         found = [
             "a_birth_is_late",
+            "  mutant of mount/src/run/births.c: mount/test births has to fail",
             "defined     mount/mutants/run/births.c.mutants:3 == a_birth_is_late",
             f"mutants     {at}:3)",
             "longer      a_birth_is_late_again (1)",
