@@ -55,25 +55,6 @@ class Contracts(unittest.TestCase):
         found = clauses.functions_of({"crates/low_laws/src/states.rt": text}, "low_laws")
         return {one.name: [name for _, name, _ in one.clauses] for one, _ in found}
 
-    def test_each_clause_of_the_crates_is_of_one_contract(self):
-        """A clause of a function stands four columns right of it; one of a closure, in a body, stands further right."""
-        texts, seen = where.repository(), 0
-        for path in (path for path in texts if re.match(r"crates/\w+/src/.*\.rt$", path)):
-            lines, found, wanted, column = texts[path].split("\n"), [], [], None
-            for at, line in enumerate(lines):
-                if clauses.FUNCTION.match(line):
-                    column = len(line) - len(line.lstrip()) + 4
-                    found += [it for it in range(at, clauses.contract_end(lines, at)) if self.is_clause(lines[it])]
-                elif self.is_clause(line) and len(line) - len(line.lstrip()) == column:
-                    wanted.append(at)
-            self.assertEqual(found, wanted, path)
-            seen += len(found)
-        self.assertGreater(seen, 2000)
-
-    @staticmethod
-    def is_clause(line):
-        return line.lstrip().startswith(("requires", "ensures"))
-
 
 class Files(unittest.TestCase):
     TEXTS = {
@@ -157,15 +138,6 @@ class Meanings(unittest.TestCase):
         lines = sum(len(at) for paths in self.hits("told").values() for at in paths.values())
         words = sum(len(re.findall(r".*\btold\b", text)) for text in self.TEXTS.values())
         self.assertEqual(lines, words)
-
-    def test_of_this_repository_the_shell_s_status_is_not_the_replay_s(self):
-        hits = where.Search("Program.status_of", where.repository()).hits
-        crates = {
-            path.split("/")[1]
-            for part in ("code", "clauses", "specs", "laws", "proofs", "edits")
-            for path in hits[part]
-        }
-        self.assertEqual(crates, {"shell_laws", "shell_main"})
 
 
 class Mutants(unittest.TestCase):
