@@ -320,11 +320,12 @@ class All(MadeUp):
 class Elsewhere(MadeUp):
     program = documents
 
-    def test_a_mount_is_passed_over(self):
+    def test_a_mount_and_what_may_not_be_read_are_passed_over(self):
         self.write("g/y.md", "")
-        for mounts, found in (((), ["g/y.md"]), ((f"{self.top}/g",), [])):
-            with mock.patch("os.path.ismount", lambda at, mounts=mounts: at in mounts):
-                self.assertEqual(sorted(documents.sources()), found)
+        for mount, file, found in (("", "", ["g/y.md"]), ("g", "", []), ("", "g/y.md", [])):
+            with mock.patch("os.path.ismount", lambda at, mount=mount: at == f"{self.top}/{mount}"):
+                with mock.patch("os.access", lambda at, _, file=file: at != f"{self.top}/{file}"):
+                    self.assertEqual(sorted(documents.sources()), found)
 
     def test_a_word_of_one_page_is_unknown_on_the_others(self):
         self.write(".ci/documents", '{"a.md": {"elsewhere"}}\n')
