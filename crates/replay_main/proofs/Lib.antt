@@ -5,3 +5,5 @@ pub mod ScriptLaws
 pub mod LinePasses
 pub mod Rehearsals
 pub mod TurnSteps
+mod LineCuts
+mod LogParts

@@ -4,19 +4,19 @@ use Rattle.std.specs.List.{count_by, slice_split}
 use Rattle.std.proofs.lemmas.List.{length-map}
 use Rattle.std.proofs.lemmas.List.Sums.{count_by-le-length}
 use Rattle.std.proofs.lemmas.List.Splits.{length-slice_split}
-use Rattle.flat_model.specs.Command.{Reply}
+use Rattle.flat_model.specs.Log.{Entry, IsLegal}
 use Rattle.flat_model.specs.Machine.{new_machine, replies}
 use Rattle.flat_model.specs.Replies.{out, commands_in, is_fault, is_refused, is_numbered, line_replies}
-use Rattle.flat_model.specs.Trace.{is_line_feed, without_empty_end, lines_in, read_line, read_trace, trace_max}
+use Rattle.flat_model.specs.Trace.{TextFault, is_line_feed, without_empty_end, lines_in, read_line, read_trace, trace_max}
 use Rattle.replay_main.specs.declared.fault.ReplayFault.{ReplayFault}
 use Rattle.replay_main.specs.declared.fault.ReplayFault.TheVariants.{Read, Write, InputTooLong, OutOfMemory, Close}
 use Rattle.trace_talk.specs.declared.summary.Summary.{Summary}
 use Rattle.program_io.specs.Device.{IsInput, IsUnwritten}
-use Rattle.undo_journal.specs.CommandMeaning.{command_of}
 use Rattle.sessions.specs.SessionMeaning.{slots}
 use Rattle.replay_main.specs.declared.reading.Script.{Script}
-use Rattle.replay_main.specs.Script.{IsScript, answers_from, place_of}
+use Rattle.replay_main.specs.Script.{AreLogged, AreScripts, all_commands, all_places, answers_from, is_command}
 use Rattle.replay_main.specs.Replayed.{EndsWork, IsAnswered, IsShort, Replayed}
+use Rattle.replay_main.proofs.LogParts.{counted_all}
 use Rattle.replay_main.proofs.ScriptLaws.{answers-out, places-count, places-faults}
 
 -- ---- the number of lines
@@ -38,34 +38,55 @@ few_lines trace short =
     let d = length-map (lines_in trace) read_line in
     omega (arith, a, b, c, d, short)
 
--- no more lines with a number than lines
-pub few_places : (trace : List ℕ) (script : Script) → length trace ≤ trace_max → IsScript script (read_trace trace) → length script.places.items < 1152921504606846976
-few_places trace script short is =
+-- no more lines with a number than lines, and no more commands
+pub few_places : (trace : List ℕ) (scripts : List Script) → length trace ≤ trace_max → AreScripts scripts (read_trace trace) → length (all_places scripts) < 1152921504606846976
+few_places trace scripts short are =
     let a = few_lines trace short in
     let b = count_by-le-length is_numbered (read_trace trace) in
     let c = places-count (read_trace trace) in
-    let d = ap length is.places in
-    let e = length-map script.places.items place_of in
-    omega (arith, a, b, c, d, e)
+    let d = ap length are.places in
+    omega (arith, a, b, c, d)
+
+pub few_commands : (trace : List ℕ) (scripts : List Script) → length trace ≤ trace_max → AreScripts scripts (read_trace trace) → length (all_commands scripts) < 1152921504606846976
+few_commands trace scripts short are =
+    let a = few_places trace scripts short are in
+    let b = counted_all scripts are.counted in
+    let c = count_by-le-length is_command (all_places scripts) in
+    omega (arith, a, b, c)
+
+-- no more refusals than lines with a number and commands
+pub few_refused : (trace : List ℕ) (scripts : List Script) (log : List Entry) (refused : ℕ) → length trace ≤ trace_max → AreScripts scripts (read_trace trace)
+    → length log ≡ length (all_commands scripts)
+    → refused ≡ count_by is_some (all_places scripts) + count_by is_refused (map (λ (e : Entry). e.reply) log) → refused < 9223372036854775808
+few_refused trace scripts log refused short are many is =
+    let a = few_places trace scripts short are in
+    let b = few_commands trace scripts short are in
+    let c = count_by-le-length (λ (p : Option TextFault). is_some p) (all_places scripts) in
+    let d = count_by-le-length is_refused (map (λ (e : Entry). e.reply) log) in
+    let e = length-map log (λ (e : Entry). e.reply) in
+    omega (arith, a, b, c, d, e, many, is)
 
 -- ---- the answers
 
-pub is_answered : (trace bytes : List ℕ) (script : Script) (rs : List Reply) (summary : Summary) (faults refused : ℕ)
-    → IsScript script (read_trace trace) → rs ≡ replies slots new_machine (map command_of script.commands.items) → length rs ≡ length (map command_of script.commands.items)
-    → bytes ≡ answers_from 1 (map place_of script.places.items) rs → summary.commands ≡ length (map place_of script.places.items)
-    → summary.refused ≡ faults + refused → faults ≡ count_by (λ p. is_some p) (map place_of script.places.items) → refused ≡ count_by is_refused rs
+pub is_answered : (trace bytes : List ℕ) (scripts : List Script) (log : List Entry) (workers : ℕ) (summary : Summary)
+    → AreScripts scripts (read_trace trace) → IsLegal slots log → AreLogged workers 0 (all_commands scripts) log
+    → bytes ≡ answers_from 1 (all_places scripts) (map (λ (e : Entry). e.reply) log) → summary.commands ≡ length (all_places scripts)
+    → summary.refused ≡ count_by is_some (all_places scripts) + count_by is_refused (map (λ (e : Entry). e.reply) log)
     → IsAnswered trace bytes summary
-is_answered trace bytes script rs summary faults refused is r same b sc sr f k =
-    let all : rs ≡ line_replies slots (read_trace trace) = r ∙ ap (λ x. replies slots new_machine x) is.commands in
-    let many : length rs ≡ length (commands_in (read_trace trace)) = same ∙ ap length is.commands in
-    let put : bytes ≡ out 1 (read_trace trace) rs = b ∙ ap (λ x. answers_from 1 x rs) is.places ∙ answers-out 1 (read_trace trace) rs many in
-    let f_is : faults ≡ count_by is_fault (read_trace trace) = f ∙ ap (λ x. count_by (λ p. is_some p) x) is.places ∙ places-faults (read_trace trace) in
-    let k_is : refused ≡ count_by is_refused (line_replies slots (read_trace trace)) = k ∙ ap (λ x. count_by is_refused x) all in
+is_answered trace bytes scripts log workers summary are legal logged b sc sr =
+    let lines = read_trace trace in
+    let rs = map (λ (e : Entry). e.reply) log in
+    let cs : map (λ (e : Entry). e.command) log ≡ commands_in lines = logged.commands_are ∙ are.commands in
+    let all : rs ≡ line_replies slots lines = sym legal ∙ ap (λ x. replies slots new_machine x) cs in
+    let many : length rs ≡ length (commands_in lines) = length-map log (λ (e : Entry). e.reply) ∙ sym (length-map log (λ (e : Entry). e.command)) ∙ ap length cs in
+    let put : bytes ≡ out 1 lines rs = b ∙ ap (λ x. answers_from 1 x rs) are.places ∙ answers-out 1 lines rs many in
+    let f_is : count_by is_some (all_places scripts) ≡ count_by is_fault lines = ap (λ x. count_by (λ p. is_some p) x) are.places ∙ places-faults lines in
+    let k_is : count_by is_refused rs ≡ count_by is_refused (line_replies slots lines) = ap (λ x. count_by is_refused x) all in
     record {
-      bytes_are = put ∙ ap (λ x. out 1 (read_trace trace) x) all;
+      bytes_are = put ∙ ap (λ x. out 1 lines x) all;
       counts = record {
-        commands = sc ∙ ap length is.places ∙ places-count (read_trace trace);
-        refused = sr ∙ ap (λ x. x + refused) f_is ∙ ap (λ x. count_by is_fault (read_trace trace) + x) k_is;
+        commands = sc ∙ ap length are.places ∙ places-count lines;
+        refused = sr ∙ ap (λ x. x + count_by is_refused rs) f_is ∙ ap (λ x. count_by is_fault lines + x) k_is;
       };
     }
 

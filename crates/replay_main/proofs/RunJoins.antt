@@ -1,8 +1,9 @@
 -- What the workers give, one after the other.
-use Rattle.std.proofs.Common.{◌≡◌, ◌∙◌, ℕ, zero, suc, ◌+◌, ◌*◌, ◌≤◌, ◌<◌, List, [], ◌∷◌, ◌++◌, drop, length, sym, ap, subst, arith, slice_index_or, Result, Ok}
-use Rattle.std.specs.List.{flat_map}
+use Rattle.std.proofs.Common.{◌≡◌, ◌∙◌, ℕ, zero, suc, ◌+◌, ◌*◌, ◌≤◌, ◌<◌, List, [], ◌∷◌, ◌++◌, drop, length, sym, ap, subst, arith, slice_index_or, Result, Ok, Err, IfOk}
+use Rattle.std.specs.List.{flat_map, sum_by}
 use Rattle.std.proofs.Math.Nat.{add-mul}
 use Rattle.std.proofs.lemmas.List.{take-append-drop, drop-drop, drop_all}
+use Rattle.std.proofs.lemmas.List.Sums.{sum_by-cons}
 use Rattle.std.specs.declared.alloc.AllocError.{AllocError}
 use Rattle.replay_main.specs.RangeResults.{IsRun}
 use Rattle.replay_main.specs.Script.{run_of}
@@ -45,3 +46,29 @@ parts_join v f ys size k xs joins empty enough run each =
     (λ i. ap (λ t. f t) (cut_run size i ys) ∙ joins (run_of size i ys) (drop ((i + 1) * size) ys))
     (ap (λ t. f t) (drop_all (k * size) ys enough) ∙ empty)
     ∙ ap (λ n. f (drop n ys)) start
+
+-- the sum of what all workers count
+pub runs_sum : {X : Type 0} {post : ℕ → Result X AllocError → Type 0} (v : X → ℕ) (rest part : ℕ → ℕ) (xs : List X) (from end : ℕ)
+    → IsRun post from end xs → ((i : ℕ) (x : X) → i < end → post i (Ok x) → v x ≡ part i)
+    → ((i : ℕ) → rest i ≡ part i + rest (i + 1)) → rest end ≡ 0 → sum_by v xs ≡ rest from
+runs_sum v rest part [] from end run each step last =
+    let same : end ≡ from = omega (arith, run.len) in
+    sym (ap (λ k. rest k) (sym same) ∙ last)
+runs_sum {X} {post} v rest part (x ∷ xs) from end run each step last =
+    let inside : from < end = omega (arith, run.len) in
+    let here : from + zero ≡ from = omega arith in
+    let P : ℕ → Type 0 = λ n. post n (Ok x) in
+    let first : v x ≡ part from = each from x inside (subst P here (run.each zero x (omega arith))) in
+    let tail : IsRun post (from + 1) end xs = record {
+      len = omega (arith, run.len);
+      each = λ i d lt. let Q : ℕ → Type 0 = λ n. post n (Ok (slice_index_or xs i d)) in subst Q (omega arith) (run.each (suc i) d (omega (arith, lt)));
+    } in
+    let behind : sum_by v xs ≡ rest (from + 1) = runs_sum v rest part xs (from + 1) end tail each step last in
+    let all = sum_by-cons v x xs in
+    let on = step from in
+    omega (arith, all, behind, first, on)
+
+-- what an Ok gives, if it gives anything
+pub ok_gives : {X E : Type 0} (r : Result X E) (P Q : X → Type 0) → IfOk r P → ((x : X) → P x → Q x) → IfOk r Q
+ok_gives (Ok x) P Q p f = f x p
+ok_gives (Err e) P Q p f = tt

@@ -1,46 +1,82 @@
--- Scripts in parts, and the answers on the lines that have a number.
-use Rattle.std.proofs.Common.{◌≡◌, ◌∙◌, ℕ, zero, suc, ◌+◌, ◌*◌, ◌≤◌, ◌<◌, Option, Some, None, is_some, List, [], ◌∷◌, ◌++◌, map, take, drop, length, refl, sym, ap, arith, Result, Ok}
+-- Scripts of pieces, and the answers on the lines that have a number.
+use Rattle.std.proofs.Common.{◌≡◌, ◌∙◌, ℕ, zero, suc, ◌+◌, ◌*◌, ◌≤◌, ◌<◌, Option, Some, None, is_some, List, [], ◌∷◌, ◌++◌, map, take, drop, length, get_or, append-nil, refl, sym, ap, subst, arith, Result, Ok}
 use Rattle.std.specs.List.{flat_map, count_by}
-use Rattle.std.proofs.Math.Seq.{take-add}
-use Rattle.std.proofs.lemmas.List.{map-append, drop-drop, drop_all, length-map, length-take, length-drop, append_assoc}
+use Rattle.std.proofs.lemmas.List.{map-append, drop_all, drop_more, length-map, append_assoc, take_all}
 use Rattle.std.proofs.lemmas.Grind.{flat_map-append}
 use Rattle.std.specs.declared.alloc.AllocError.{AllocError}
-use Rattle.flat_model.proofs.Sums.{count_by-cons, count_by-append}
+use Rattle.flat_model.proofs.Sums.{count_by-cons}
 use Rattle.flat_model.specs.Command.{Reply}
 use Rattle.flat_model.specs.Replies.{out, commands_in, command_in, command_count, is_fault, is_numbered, reply_bytes, fault_bytes}
 use Rattle.flat_model.specs.Trace as trace
-use Rattle.flat_model.specs.Trace.{read_line}
+use Rattle.flat_model.specs.Trace.{lines_in, read_line, read_trace}
 use Rattle.undo_journal.specs.CommandMeaning.{command_of}
-use Rattle.replay_main.specs.declared.reading.NumberedLine.{NumberedLine}
 use Rattle.replay_main.specs.declared.reading.Script.{Script}
 use Rattle.replay_main.specs.RangeResults.{IsRun}
-use Rattle.replay_main.specs.Script.{IsScript, place_in, places_in, place_of, is_command, answers_from, run_of, run_answers, replies_behind}
-use Rattle.replay_main.proofs.RunJoins.{runs_join, parts_join, cut_run, next_start}
+use Rattle.replay_main.specs.Script.{AreScripts, IsCounted, IsScript, place_in, places_in, place_of, is_command, answers_from, run_of}
+use Rattle.replay_main.proofs.RunJoins.{parts_join}
 
--- ---- scripts of runs
+-- ---- scripts of pieces
 
--- the scripts of all runs, joined
-pub joined_scripts : {Y : Type 0} {post : ℕ → Result Script AllocError → Type 0} (script : Script) (scripts : List Script) (text : Y → List ℕ) (lines : List Y) (size k : ℕ)
-    → map command_of script.commands.items ≡ flat_map (λ s. map command_of s.commands.items) scripts
-    → map place_of script.places.items ≡ flat_map (λ s. map place_of s.places.items) scripts
-    → length lines ≤ k * size → IsRun post 0 k scripts
-    → ((i : ℕ) (s : Script) → i < k → post i (Ok s) → IsScript s (map read_line (map text (run_of size i lines))))
-    → IsScript script (map read_line (map text lines))
-joined_scripts {Y} script scripts text lines size k cs ps enough run each =
-    let split : (fs bs : List Y) → map read_line (map text (fs ++ bs)) ≡ map read_line (map text fs) ++ map read_line (map text bs) =
-    λ fs bs. ap (λ t. map read_line t) (map-append text fs bs) ∙ map-append read_line (map text fs) (map text bs) in
+counted_in : (lines : List trace.Line) → count_by is_command (places_in lines) ≡ length (commands_in lines)
+counted_in [] = refl
+counted_in (trace.Skip ∷ lines) = counted_in lines
+counted_in (trace.Fault f ∷ lines) = let a = count_by-cons is_command (Some f) (places_in lines) in let b = counted_in lines in omega (arith, a, b)
+counted_in (trace.Run c ∷ lines) = let a = count_by-cons is_command None (places_in lines) in let b = counted_in lines in omega (arith, a, b)
+
+counted_of : (script : Script) (lines : List trace.Line) → IsScript script lines → IsCounted script
+counted_of script lines is =
+    ap (λ ps. count_by is_command ps) is.places ∙ counted_in lines ∙ sym (ap length is.commands) ∙ length-map script.commands.items command_of
+
+-- the scripts of all pieces
+pub are_scripts : {Y : Type 0} {post : ℕ → Result Script AllocError → Type 0} (scripts : List Script) (lines_of : Y → List trace.Line) (pieces : List Y) (k : ℕ)
+    → length pieces ≤ k → IsRun post 0 k scripts
+    → ((i : ℕ) (s : Script) → i < k → post i (Ok s) → IsScript s (flat_map lines_of (run_of 1 i pieces)))
+    → AreScripts scripts (flat_map lines_of pieces)
+are_scripts {Y} {post} scripts lines_of pieces k enough run each =
+    let all : length pieces ≤ k * 1 = omega (arith, enough) in
+    let len = run.len in
+    let many : length scripts ≡ k = omega (arith, len) in
+    let here : (i : ℕ) → 0 + i ≡ i = λ i. omega arith in
     record {
-      commands = cs ∙ parts_join (λ s. map command_of s.commands.items) (λ ys. commands_in (map read_line (map text ys))) lines size k scripts
-          (λ fs bs. ap (λ t. commands_in t) (split fs bs) ∙ flat_map-append command_in (map read_line (map text fs)) (map read_line (map text bs)))
-          refl enough run (λ i s lt p. (each i s lt p).commands);
-      places = ps ∙ parts_join (λ s. map place_of s.places.items) (λ ys. places_in (map read_line (map text ys))) lines size k scripts
-          (λ fs bs. ap (λ t. places_in t) (split fs bs) ∙ flat_map-append place_in (map read_line (map text fs)) (map read_line (map text bs)))
-          refl enough run (λ i s lt p. (each i s lt p).places);
+      commands = parts_join (λ s. map command_of s.commands.items) (λ ys. commands_in (flat_map lines_of ys)) pieces 1 k scripts
+          (λ fs bs. ap (λ t. commands_in t) (flat_map-append lines_of fs bs) ∙ flat_map-append command_in (flat_map lines_of fs) (flat_map lines_of bs))
+          refl all run (λ i s lt p. (each i s lt p).commands);
+      places = parts_join (λ s. map place_of s.places.items) (λ ys. places_in (flat_map lines_of ys)) pieces 1 k scripts
+          (λ fs bs. ap (λ t. places_in t) (flat_map-append lines_of fs bs) ∙ flat_map-append place_in (flat_map lines_of fs) (flat_map lines_of bs))
+          refl all run (λ i s lt p. (each i s lt p).places);
+      counted = λ i d lt. counted_of (get_or scripts i d) (flat_map lines_of (run_of 1 i pieces)) (each i (get_or scripts i d) (omega (arith, lt, many)) (subst (λ n. post n (Ok (get_or scripts i d))) (here i) (run.each i d lt)));
     }
+
+-- the lines of one piece
+pub one_piece : {Y Z : Type 0} (lines_of : Y → List Z) (pieces : List Y) (i : ℕ) (piece : Y) → i < length pieces → get_or pieces i piece ≡ piece
+    → lines_of piece ≡ flat_map lines_of (run_of 1 i pieces)
+one_piece lines_of pieces i piece inside is =
+    let at : i * 1 ≡ i = omega arith in
+    let one : run_of 1 i pieces ≡ piece ∷ [] =
+    ap (λ n. take 1 (drop n pieces)) at ∙ ap (λ t. take 1 t) (drop_more pieces i piece inside) ∙ ap (λ x. x ∷ []) is in
+    sym (append-nil (lines_of piece)) ∙ ap (λ t. flat_map lines_of t) (sym one)
+
+-- the lines of all pieces
+pub all_pieces : {Y : Type 0} (text : Y → List ℕ) (pieces : List Y) (whole : List ℕ) → flat_map (λ y. lines_in (text y)) pieces ≡ lines_in whole
+    → flat_map (λ y. read_trace (text y)) pieces ≡ read_trace whole
+all_pieces text pieces whole lines =
+    mapped pieces ∙ ap (λ t. map read_line t) lines
+  where
+    mapped : (ys : List _) → flat_map (λ y. read_trace (text y)) ys ≡ map read_line (flat_map (λ y. lines_in (text y)) ys)
+    mapped [] = refl
+    mapped (y ∷ ys) = ap (λ t. read_trace (text y) ++ t) (mapped ys) ∙ sym (map-append read_line (lines_in (text y)) (flat_map (λ z. lines_in (text z)) ys))
+
+-- ---- line after line
+
+-- one line more is read, of which the script gets `more`
+pub read_more : {Z : Type 0} (part : trace.Line → List Z) (old new whole : List Z) (line : trace.Line) (rest : List trace.Line)
+    → new ≡ old ++ part line → old ++ flat_map part (line ∷ rest) ≡ whole → new ++ flat_map part rest ≡ whole
+read_more part old new whole line rest n w =
+    ap (λ t. t ++ flat_map part rest) n ∙ append_assoc old (part line) (flat_map part rest) ∙ w
 
 -- ---- answers of runs
 
-answers-append : (n : ℕ) (fs bs : List (Option trace.TextFault)) (rs : List Reply)
+pub answers-append : (n : ℕ) (fs bs : List (Option trace.TextFault)) (rs : List Reply)
     → answers_from n (fs ++ bs) rs ≡ answers_from n fs rs ++ answers_from (n + length fs) bs (drop (count_by is_command fs) rs)
 answers-append n [] bs rs = let e : n ≡ n + zero = omega arith in ap (λ k. answers_from k bs rs) e
 answers-append n (Some f ∷ fs) bs rs =
@@ -62,73 +98,15 @@ answers-append n (None ∷ fs) bs (r ∷ rs) =
     ∙ ap (λ k. answers_from n (None ∷ fs) (r ∷ rs) ++ answers_from k bs (drop (count_by is_command fs) rs)) e
     ∙ ap (λ k. answers_from n (None ∷ fs) (r ∷ rs) ++ answers_from (n + length (None ∷ fs)) bs (drop k (r ∷ rs))) (sym counted)
 
--- the number is of no matter where nothing is answered
-from_number : (n m : ℕ) (bs : List (Option trace.TextFault)) (rs : List Reply) → (0 < length bs → n ≡ m) → answers_from n bs rs ≡ answers_from m bs rs
-from_number n m [] rs same = refl
-from_number n m (b ∷ bs) rs same = ap (λ k. answers_from k (b ∷ bs) rs) (same (omega arith))
-
-abbrev answers_behind : ℕ → List (Option trace.TextFault) → List Reply → ℕ → List ℕ
-answers_behind size ps rs i = answers_from (i * size + 1) (drop (i * size) ps) (replies_behind (i * size) ps rs)
-
-answers_step : (size : ℕ) (ps : List (Option trace.TextFault)) (rs : List Reply) (i : ℕ) → answers_behind size ps rs i ≡ run_answers size i ps rs ++ answers_behind size ps rs (i + 1)
-answers_step size ps rs i =
-    let next = next_start size i in
-    let mine = run_of size i ps in
-    let left = drop ((i + 1) * size) ps in
-    let behind = replies_behind (i * size) ps rs in
-    let number : 0 < length left → i * size + 1 + length mine ≡ (i + 1) * size + 1 = λ some.
-    let a = length-drop (i * size) ps in
-    let b = length-drop ((i + 1) * size) ps in
-    let c = length-take size (drop (i * size) ps) in
-    omega (arith, a, b, c, next, some) in
-    let counted : count_by is_command (take ((i + 1) * size) ps) ≡ count_by is_command (take (i * size) ps) + count_by is_command mine =
-    ap (λ n. count_by is_command (take n ps)) next ∙ ap (λ t. count_by is_command t) (take-add (i * size) size ps) ∙ count_by-append is_command (take (i * size) ps) mine in
-    let replied : drop (count_by is_command mine) behind ≡ replies_behind ((i + 1) * size) ps rs =
-    drop-drop (count_by is_command mine) (count_by is_command (take (i * size) ps)) rs ∙ ap (λ n. drop n rs) (sym counted) in
-    ap (λ t. answers_from (i * size + 1) t behind) (cut_run size i ps)
-    ∙ answers-append (i * size + 1) mine left behind
-    ∙ ap (λ t. run_answers size i ps rs ++ t) (ap (λ t. answers_from (i * size + 1 + length mine) left t) replied
-    ∙ from_number (i * size + 1 + length mine) ((i + 1) * size + 1) left (replies_behind ((i + 1) * size) ps rs) number)
-
--- the answers of all runs, joined
-pub joined_answers : {X : Type 0} {post : ℕ → Result X AllocError → Type 0} (v : X → List ℕ) (places : List NumberedLine) (rs : List Reply) (size k : ℕ) (xs : List X)
-    → length places ≤ k * size → IsRun post 0 k xs → ((i : ℕ) (x : X) → i < k → post i (Ok x) → v x ≡ run_answers size i (map place_of places) rs)
-    → flat_map v xs ≡ answers_from 1 (map place_of places) rs
-joined_answers v places rs size k xs enough run each =
-    let ps = map place_of places in
-    let a = length-map places place_of in
-    let all : length ps ≤ k * size = omega (arith, a, enough) in
-    let start : 0 * size ≡ 0 = omega arith in
-    runs_join v (answers_behind size ps rs) (λ i. run_answers size i ps rs) xs 0 k run each (answers_step size ps rs)
-    (ap (λ t. answers_from (k * size + 1) t (replies_behind (k * size) ps rs)) (drop_all (k * size) ps all))
-    ∙ ap (λ n. answers_from (n + 1) (drop n ps) (replies_behind n ps rs)) start
-
-map-take : {X Y : Type 0} (f : X → Y) (n : ℕ) (xs : List X) → map f (take n xs) ≡ take n (map f xs)
-map-take f zero xs = refl
-map-take f (suc n) [] = refl
-map-take f (suc n) (x ∷ xs) = ap (λ t. f x ∷ t) (map-take f n xs)
-
-map-drop : {X Y : Type 0} (f : X → Y) (n : ℕ) (xs : List X) → map f (drop n xs) ≡ drop n (map f xs)
-map-drop f zero xs = refl
-map-drop f (suc n) [] = refl
-map-drop f (suc n) (x ∷ xs) = map-drop f n xs
-
--- the entries behind those of the first places
-pub replied_behind : {E : Type 0} (v : E → Reply) (n before : ℕ) (places : List NumberedLine) (first : List NumberedLine) (log rest : List E)
-    → first ≡ take n places → before ≡ count_by is_command (map place_of first) → rest ≡ drop before log
-    → map v rest ≡ replies_behind n (map place_of places) (map v log)
-replied_behind v n before places first log rest f b r =
-    ap (λ t. map v t) r ∙ map-drop v before log
-    ∙ ap (λ k. drop k (map v log)) (b ∙ ap (λ t. count_by is_command t) (ap (λ t. map place_of t) f ∙ map-take place_of n places))
-
--- the answers of one run
-pub run_answered : (size w : ℕ) (places mine : List NumberedLine) (rs all : List Reply) (text : List ℕ)
-    → text ≡ answers_from (w * size + 1) (map place_of mine) rs → mine ≡ run_of size w places → rs ≡ replies_behind (w * size) (map place_of places) all
-    → text ≡ run_answers size w (map place_of places) all
-run_answered size w places mine rs all text t m r =
-    t ∙ ap (λ x. answers_from (w * size + 1) (map place_of mine) x) r
-    ∙ ap (λ x. answers_from (w * size + 1) x (replies_behind (w * size) (map place_of places) all)) (ap (λ x. map place_of x) m
-    ∙ map-take place_of size (drop (w * size) places) ∙ ap (λ x. take size x) (map-drop place_of (w * size) places))
+-- the answers need no more replies than commands
+pub answers-front : (n : ℕ) (ps : List (Option trace.TextFault)) (rs : List Reply) → answers_from n ps (take (count_by is_command ps) rs) ≡ answers_from n ps rs
+answers-front n [] rs = refl
+answers-front n (Some f ∷ ps) rs = ap (λ t. fault_bytes n f ++ t) (answers-front (n + 1) ps rs)
+answers-front n (None ∷ ps) [] =
+    ap (λ t. answers_from n (None ∷ ps) t) (take_all (count_by is_command (None ∷ ps)) [] (omega arith))
+answers-front n (None ∷ ps) (r ∷ rs) =
+    let counted : count_by is_command (None ∷ ps) ≡ suc (count_by is_command ps) = let a = count_by-cons is_command None ps in omega (arith, a) in
+    ap (λ k. answers_from n (None ∷ ps) (take k (r ∷ rs))) counted ∙ ap (λ t. reply_bytes n r ++ t) (answers-front (n + 1) ps rs)
 
 -- ---- the whole script
 

@@ -5,4 +5,4 @@ pub mod ReplayArguments
 pub mod ReplayProgram
 pub mod RangeResults
 pub mod Script
-pub mod Turns
+pub mod WorkerTurns

@@ -1,24 +1,38 @@
-//! Whether a log has the commands of a trace, in their order, each run by the session whose turn it was.
+//! Whether entries of a log are those of given commands, each run by the session whose turn it was.
 
-ghost use Rattle.std.specs.Prelude.{◌≡◌, ◌<◌, length, map, IsTrue};
+ghost use Rattle.std.specs.Prelude.{◌≡◌, ◌+◌, ◌<◌, ◌^◌, length, map, IsTrue};
 ghost use Rattle.undo_journal.specs.CommandMeaning.{command_of};
-ghost use Rattle.replay_main.specs.Turns.{TakesTurns};
+ghost use Rattle.replay_main.specs.Script.{AreLogged};
+ghost use Rattle.replay_main.specs.WorkerTurns.{TakesTurns};
 
 use sessions::Entry;
 use std::alloc::Global;
 use undo_journal::Command;
 
-/// Whether the commands of a log are these, in their order.
-pub(crate) fn has_commands(log: &[Entry], commands: &[Command<Global>]) -> bool
-    ensures same { IsTrue result → map (λ e. e.command) log.now
-        ≡ map command_of commands.now }
-    ensures each { IsTrue result → length log.now ≡ length commands.now }
+/// Whether these entries, the first of which is at this turn, are those of these commands, each run
+/// by the session whose turn it was.
+pub(crate) fn are_logged(
+    workers: usize,
+    turn: usize,
+    commands: &[Command<Global>],
+    entries: &[Entry],
+) -> bool
+    requires workers { 0 < workers }
+    requires turn { turn < 2 ^ 60 }
+    ensures { IsTrue result → AreLogged workers turn (map command_of commands.now) entries.now }
 {
-    if log.len() != commands.len() {
+    has_commands(entries, commands) && takes_turns(workers, turn, entries)
+}
+
+/// Whether the commands of these entries are these, in their order.
+fn has_commands(entries: &[Entry], commands: &[Command<Global>]) -> bool
+    ensures { IsTrue result → map (λ e. e.command) entries.now ≡ map command_of commands.now }
+{
+    if entries.len() != commands.len() {
         return false;
     }
-    for i in 0..log.len() {
-        if !is_of(&log[i], &commands[i]) {
+    for i in 0..entries.len() {
+        if !is_of(&entries[i], &commands[i]) {
             return false;
         }
     }
@@ -32,14 +46,15 @@ fn is_of(entry: &Entry, command: &Command<Global>) -> bool
     entry.command.is(command)
 }
 
-/// Whether the i-th entry of a log is of session i mod `workers`.
-pub(crate) fn takes_turns(log: &[Entry], workers: usize) -> bool
-    requires { 0 < workers }
-    ensures { IsTrue result → TakesTurns workers log.now }
+/// Whether the i-th of these entries is of session (turn + i) mod `workers`.
+fn takes_turns(workers: usize, turn: usize, entries: &[Entry]) -> bool
+    requires workers { 0 < workers }
+    requires turn { turn < 2 ^ 60 }
+    ensures { IsTrue result → TakesTurns workers turn entries.now }
 {
-    for i in 0..log.len() {
-        let entry = &log[i];
-        if usize::from(entry.session) != i % workers {
+    for i in 0..entries.len() {
+        let entry = &entries[i];
+        if usize::from(entry.session) != (turn + i) % workers {
             return false;
         }
     }

@@ -10,11 +10,11 @@ ghost use Rattle.replay_main.specs.Replayed.{IsAnswered, Replayed};
 ghost use Rattle.replay_main.specs.Script.{place_of};
 
 use crate::input::read_whole;
-use crate::reading::{NumberedLine, count_faults, read_script};
+use crate::reading::{NumberedLine, count_faults, read_lines};
 use crate::trace::Answered;
 use crate::{ReplayFault, Sink, Source, Summary};
 use bumpalo::Bump;
-use pids_charge::{OpenGate, PlainMeter};
+use pids_charge::PlainMeter;
 use program_io::write_whole;
 use std::alloc::{AllocError, Global};
 use std::sync::Wait;
@@ -64,7 +64,7 @@ fn rehearsed<R: Threads + Wait + Sync>(
     requires { length trace.now ≤ trace_max }
     ensures { IfOk result (λ a. IsAnswered trace.now a.bytes.items a.summary) }
 {
-    let script = read_script(rt, alloc, &OpenGate, 1, trace)?;
+    let script = read_lines(alloc, trace)?;
     let engine = Engine::new(alloc, PlainMeter::new(alloc)?)?;
     let arena = Bump::new(alloc);
     let replies = engine.rehearse(rt, alloc, &arena, script.commands.as_slice())?;

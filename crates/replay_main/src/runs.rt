@@ -1,8 +1,7 @@
-//! Work in contiguous runs, with a thread for each worker.
+//! Work in parts, with a thread for each worker.
 
-ghost use Rattle.std.specs.Prelude.{◌≡◌, ◌+◌, ◌++◌, ◌*◌, ◌<◌, ◌≤◌, ◌^◌, ℕ, take, drop, IfOk, OnOk};
+ghost use Rattle.std.specs.Prelude.{◌≡◌, ◌+◌, ◌<◌, ◌≤◌, ℕ, take, drop, IfOk};
 ghost use Rattle.replay_main.specs.RangeResults.{IsRun};
-ghost use Rattle.replay_main.specs.Script.{run_of};
 ghost use denote.Param.Send.{IsSend, IsSync};
 
 use pids_charge::Gate;
@@ -73,23 +72,6 @@ fn one_run<G: Gate, X, F: Fn(usize) -> Result<X, AllocError>>(
     f(usize::from(worker))
 }
 
-/// The most items, of this many, that a worker gets.
-pub(crate) fn run_size(len: usize, workers: u8) -> usize
-    requires { (1 ≤ workers) × (workers ≤ 8) × (len < 2 ^ 60) }
-    ensures whole { len ≤ workers * result }
-    ensures bound { result ≤ 2 ^ 60 }
-{
-    len / usize::from(workers) + 1
-}
-
-/// The items of one worker.
-pub(crate) fn run_of<T>(items: &[T], size: usize, worker: usize) -> &[T]
-    requires { (worker < 8) × (size ≤ 2 ^ 60) }
-    ensures { result.now ≡ run_of size worker items.now }
-{
-    first(behind(items, worker * size), size)
-}
-
 /// The first `n` items, or all if there are fewer.
 pub(crate) fn first<T>(items: &[T], n: usize) -> &[T]
     ensures { result.now ≡ take n items.now }
@@ -102,16 +84,4 @@ pub(crate) fn behind<T>(items: &[T], n: usize) -> &[T]
     ensures { result.now ≡ drop n items.now }
 {
     &items[n.min(items.len())..]
-}
-
-/// Appends these items to the others, which are few or none.
-pub(crate) fn put_behind<T: Drop>(all: &mut Vec<T>, more: Vec<T>) -> Result<(), AllocError>
-    ensures { OnOk result (all.new.items ≡ all.old.items ++ more.items) }
-{
-    if all.is_empty() {
-        *all = more;
-        return Ok(());
-    }
-    let mut more = more;
-    all.append(&mut more)
 }

@@ -7,8 +7,8 @@ ghost use Rattle.replay_main.specs.Replayed.{EndsWork, IsAnswered, Replayed};
 
 use crate::input::read_whole;
 use crate::one_pass::answer_in_one_pass;
-use crate::reading::{count_faults, read_script};
-use crate::texts::{answers_of, count_refused};
+use crate::reading::{read_scripts, sizes};
+use crate::texts::{all_logged, answers_of, count_all_refused, join};
 use crate::turns::run_commands;
 use crate::{ReplayFault, Sink, Source, Summary};
 use pids_charge::{Gate, OpenGate};
@@ -63,19 +63,29 @@ fn answer_at_a_desk<R: Threads + Wait + Sync, G: Gate>(
     ensures ok { IfOk result (λ a. IsAnswered trace.now a.bytes.items a.summary) }
     ensures fault { IfErr result EndsWork }
 {
-    let Ok(script) = read_script(rt, alloc, gate, workers, trace) else {
+    let Ok(read) = read_scripts(rt, alloc, gate, workers, trace) else {
         return Err(ReplayFault::OutOfMemory);
     };
-    let log = run_commands(rt, alloc, gate, workers, script.commands.as_slice())?;
-    let places = script.places.as_slice();
-    let Ok(bytes) = answers_of(rt, alloc, gate, workers, places, log.as_slice()) else {
+    let scripts = read.as_slice();
+    let log = run_commands(rt, alloc, gate, scripts)?;
+    let (lines, commands) = sizes(scripts);
+    if log.len() != commands {
+        return Err(ReplayFault::Close);
+    }
+    let Ok(parts) = answers_of(rt, alloc, gate, scripts, log.as_slice()) else {
         return Err(ReplayFault::OutOfMemory);
     };
+    if !all_logged(parts.as_slice()) {
+        return Err(ReplayFault::Close);
+    }
     let summary = Summary {
-        commands: places.len() as u64,
-        refused: count_faults(places) as u64 + count_refused(log.as_slice()),
+        commands: lines as u64,
+        refused: count_all_refused(parts.as_slice()),
     };
-    Ok(Answered { bytes, summary })
+    match join(alloc, parts) {
+        Ok(bytes) => Ok(Answered { bytes, summary }),
+        Err(_) => Err(ReplayFault::OutOfMemory),
+    }
 }
 
 /// Reads a trace to its end, answers every line, writes the answers and flushes them.

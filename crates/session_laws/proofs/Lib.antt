@@ -1,3 +1,4 @@
 mod Faults
 mod ToldAnswers
 mod LegalLogs
+mod RowSteps

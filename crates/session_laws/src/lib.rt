@@ -6,6 +6,7 @@
 //!
 //! - `desks`: what a call leaves of its session and behind the lock, which turns have passed, and
 //!   which fault of an audit is the first.
+//! - `rows`: which session runs which command of a row.
 //! - `replays`: what a replay leaves if its devices report their bytes, what the program does for
 //!   its command line, and its statuses.
 //! - `replays::scripts`: what is at the numbered lines of a trace, and the output of several
@@ -17,3 +18,4 @@
 
 pub mod desks;
 pub mod replays;
+pub mod rows;

@@ -12,6 +12,7 @@
 //! |---|---|
 //! | `desk N` | nothing; the desk has sessions 0 to N - 1 |
 //! | `run K LINE`, `run_at K TURN LINE` | the output of the line under the number of the receipt; `halted`; `passed LEN` |
+//! | `turns TURN LINE;LINE ..` | nothing; all sessions in turn run the lines in a row; `halted`; `passed LEN` |
 //! | `halt K`, `drop K`, `renumber K N` | nothing |
 //! | `close K K ..` | `LEN entries`; `stranger N`, `missing N`, `differs N`; the sessions stay in their places |
 //! | `audit N K K ..` | of the log of the closed desk, as one of N sessions: nothing, or as `close` |
@@ -34,7 +35,8 @@ mod texts;
 mod works;
 
 use crate::place::{
-    Place, audit_log, close, command, open, put_log, put_receipts, rest, run, sessions_in, slot,
+    Place, audit_log, close, command, open, put_log, put_receipts, rest, run, run_in_turn,
+    sessions_in, slot,
 };
 use crate::races::{close_beside, race, sleep};
 use crate::receipts::forge;
@@ -228,6 +230,7 @@ fn answer<R: Threads + Wait + Sync>(
             }
         }
         b"close" => close(rt, alloc, place, case, said)?,
+        b"turns" => run_in_turn(rt, alloc, place, case, said)?,
         b"audit" => audit_log(alloc, place, case, said)?,
         b"log" => put_log(alloc, said, place.log.as_slice())?,
         b"order" => put_order(place.log.as_slice(), case, said)?,

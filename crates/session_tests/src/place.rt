@@ -156,6 +156,99 @@ fn put_back(place: &mut Place, case: &Case, from: usize, sessions: Vec<Session>)
     }
 }
 
+/// Appends a command to the others.
+fn add(commands: &mut Vec<Command<Global>>, command: Command<Global>) -> Result<(), AllocError> {
+    commands.push(command)?;
+    Ok(())
+}
+
+/// Takes the sessions in all places.
+fn take_all(alloc: Global, place: &mut Place) -> Result<Vec<Session>, AllocError> {
+    let mut sessions = Vec::with_capacity(alloc, 8)?;
+    for slot in place.sessions.iter_mut() {
+        if let Some(session) = slot.take() {
+            sessions.push(session)?;
+        }
+    }
+    Ok(sessions)
+}
+
+/// How many receipts the sessions have.
+fn count_receipts(sessions: &[Session]) -> usize {
+    let mut count = 0usize;
+    for session in sessions {
+        count = count.saturating_add(session.receipts.len());
+    }
+    count
+}
+
+/// Runs these commands in a row, the first at this turn, by these sessions. If a session is out of memory, it runs the command
+/// and those after it once more.
+fn run_row<R: Threads + Wait + Sync>(
+    rt: &R,
+    desk: &Desk,
+    turn: u64,
+    sessions: &mut Vec<Session>,
+    commands: &[Command<Global>],
+) -> Option<RunFault> {
+    if sessions.is_empty() {
+        return None;
+    }
+    let before = count_receipts(sessions.as_slice());
+    let fault = desk
+        .run_turns(rt, 0, turn, sessions.as_mut_slice(), commands)
+        .err()?;
+    if !matches!(fault, RunFault::OutOfMemory) || sessions.is_empty() {
+        return Some(fault);
+    }
+    let ran = count_receipts(sessions.as_slice()).saturating_sub(before);
+    let rest = commands.get(ran..).unwrap_or(&[]);
+    desk.run_turns(
+        rt,
+        0,
+        turn.saturating_add(ran as u64),
+        sessions.as_mut_slice(),
+        rest,
+    )
+    .err()
+}
+
+/// Runs the commands of a text in a row, by the sessions in all places, and puts them back. Says why one did not run.
+pub(crate) fn run_in_turn<R: Threads + Wait + Sync>(
+    rt: &R,
+    alloc: Global,
+    place: &mut Place,
+    case: &Case,
+    said: &mut String,
+) -> Result<(), CaseFault> {
+    let text = rest(alloc, case, 2)?;
+    let Ok(lines) = str::from_utf8(text.as_slice()) else {
+        return Err(CaseFault::Malformed);
+    };
+    let mut commands = Vec::new(alloc);
+    for line in lines.split(';') {
+        add(&mut commands, command(alloc, line.as_bytes())?)?;
+    }
+    let mut sessions = take_all(alloc, place)?;
+    let Some(desk) = place.desk.as_ref() else {
+        return Err(CaseFault::Malformed);
+    };
+    let fault = run_row(
+        rt,
+        desk,
+        case.number(1)?,
+        &mut sessions,
+        commands.as_slice(),
+    );
+    for (slot, session) in place.sessions.iter_mut().zip(sessions) {
+        *slot = Some(session);
+    }
+    match fault {
+        Some(fault) => put_run_fault(said, fault),
+        None => Ok(()),
+    }
+}
+
 /// Closes the desk with the sessions in these places, and puts them back. Says how many entries the log has, or why the desk
 /// stays open.
 pub(crate) fn close<R: Wait>(

@@ -4,3 +4,4 @@ mod DueTurns
 mod Legal
 pub mod SessionCrosses
 mod CommandUndo
+mod TurnOrder

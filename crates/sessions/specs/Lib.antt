@@ -5,3 +5,4 @@ pub mod Faults
 pub mod Marks
 pub mod Desks
 pub mod Waits
+pub mod Turns

@@ -1,6 +1,6 @@
 //! The value behind the lock, and one call of a session on it.
 
-ghost use Rattle.std.specs.Prelude.{◌≡◌, ◌↔◌, ◌%◌, ℕ, IsTrue, IfOk, IfErr, OnErr, Some, None, slice_index_or, true};
+ghost use Rattle.std.specs.Prelude.{◌≡◌, ◌↔◌, ◌+◌, ◌%◌, ℕ, IsTrue, IfOk, IfErr, OnErr, Some, None, slice_index_or, true};
 ghost use Rattle.flat_model.specs.Audit.{AreEntries};
 ghost use Rattle.undo_journal.specs.CommandMeaning.{command_of};
 ghost use Rattle.sessions.specs.Faults.{IsFirstFault};
@@ -9,9 +9,11 @@ ghost use Rattle.sessions.specs.Served.{
   AnswerAt,
   IsBut,
   IsEarly,
+  IsLate,
   IsSame,
   Served,
   log_in,
+  log_len,
   reached_of,
 };
 ghost use Rattle.sessions.specs.Waits.{AreDue, AreLeft, IsNoLater, IsWoken};
@@ -169,5 +171,30 @@ impl Hall {
             _ => return Err(RunFault::Halted),
         }
         self.serve(rt, session, cmd, receipts)
+    }
+
+    /// Runs a command for a session at this turn, appends its receipt, and returns the next turn.
+    pub(crate) fn serve_turn<R: Threads + Wait + Sync, B: Allocator + Clone>(
+        &mut self,
+        rt: &R,
+        session: u8,
+        turn: u64,
+        cmd: &Command<B>,
+        receipts: &mut Vec<Receipt>,
+    ) -> Result<u64, RunFault>
+        requires { ¬ IsEarly self.old turn }
+        ensures served { IfOk result (λ _. Served session (command_of cmd.now) self.old self.new
+            receipts.old.items receipts.new.items) }
+        ensures next { IfOk result (λ next. (next ≡ turn + 1) × (¬ IsEarly self.new next)) }
+        ensures number { IfOk result (λ _. log_len self.old ≡ turn) }
+        ensures kept { OnErr result (receipts.new.items ≡ receipts.old.items) }
+        ensures same { OnErr result (IsSame self.old self.new) }
+        ensures late { IfErr result (λ e. IsLate turn e) }
+    {
+        self.serve_at(rt, session, turn, cmd, receipts)?;
+        match &self.book {
+            Some(book) => Ok(book.log.len() as u64),
+            None => Ok(turn),
+        }
     }
 }

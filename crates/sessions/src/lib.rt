@@ -8,6 +8,8 @@
 //! - `run` runs a command as soon as no other command runs. `run_at` waits for its turn, which
 //!   comes when the log has a given number of entries. The log entry and the session's receipt have
 //!   the same number.
+//! - `run_turns` runs commands in a row, each at its turn by the session whose turn it is. It waits
+//!   and locks once.
 //! - A refusal by the hierarchy is a reply, and is logged like any other. A `RunFault` is not a
 //!   reply: nothing was logged or changed. Entry and receipt are reserved before the engine runs
 //!   the command, so running out of memory changes nothing.
@@ -31,9 +33,10 @@
 //! was halted or closed.
 //!
 //! `flat_model` defines logs, receipts and their faults (`specs/Log.antt`, `specs/Audit.antt`).
-//! `specs/Receipts.antt` says how a call leaves its session, and `specs/Served.antt` how it leaves the
-//! value behind the lock. `specs/Waits.antt` defines which awaited turns have come. `session_laws`
-//! has the laws that follow from these definitions.
+//! `specs/Receipts.antt` says how a call leaves its session, `specs/Turns.antt` how a row of commands
+//! leaves all sessions, and `specs/Served.antt` how a call leaves the value behind the lock.
+//! `specs/Waits.antt` defines which awaited turns have come. `session_laws` has the laws that follow
+//! from these definitions.
 #![tactic(auto)]
 
 mod auditing;
@@ -46,6 +49,7 @@ mod hall;
 mod session;
 mod shared;
 mod step;
+mod turns;
 mod waits;
 
 pub use auditing::audit;

@@ -1,13 +1,14 @@
 //! A session, which runs commands at a desk and keeps a receipt of each.
 
-ghost use Rattle.std.specs.Prelude.{◌≡◌, IfErr, MatchResult};
+ghost use Rattle.std.specs.Prelude.{◌≡◌, ◌+◌, IfOk, IfErr, MatchResult};
 ghost use Rattle.std.specs.Arc.{arc_value};
 ghost use Rattle.std.specs.Borrow.{sem};
 ghost use Rattle.std.specs.Io.BufRead.{Rests};
 ghost use Rattle.undo_journal.specs.CommandMeaning.{command_of};
 ghost use Rattle.sessions.specs.Receipts.{AddsReceipt, AddsReceiptAt, Last, LastAt};
-ghost use Rattle.sessions.specs.Served.{IsLate, NamesNoTurn};
+ghost use Rattle.sessions.specs.Served.{IsEarly, IsLate, NamesNoTurn};
 
+use crate::hall::Hall;
 use crate::shared::Shared;
 use crate::{Desk, Receipt, RunFault};
 use std::alloc::Allocator;
@@ -146,5 +147,27 @@ impl Session {
         let outcome = hall.serve_at(rt, *number, turn, cmd, receipts);
         shared.leave(hall);
         outcome
+    }
+
+    /// Runs a command at this turn in the hall of the session's desk, and returns the next turn.
+    pub(crate) fn serve_in<R: Threads + Wait + Sync, B: Allocator + Clone>(
+        &mut self,
+        rt: &R,
+        hall: &mut Hall,
+        turn: u64,
+        cmd: &Command<B>,
+    ) -> Result<u64, RunFault>
+        requires { ¬ IsEarly hall.old turn }
+        ensures ran { MatchResult result (λ _. LastAt turn (command_of cmd.now) self.old self.new)
+            (λ _. self.new ≡ self.old) }
+        ensures next { IfOk result (λ next. (next ≡ turn + 1) × (¬ IsEarly hall.new next)) }
+        ensures late { IfErr result (λ e. IsLate turn e) }
+    {
+        let Session {
+            number,
+            receipts,
+            shared: _,
+        } = self;
+        hall.serve_turn(rt, *number, turn, cmd, receipts)
     }
 }

@@ -34,7 +34,6 @@ ghost use Rattle.replay_main.specs.Script.{
   is_command,
   place_of,
   places_in,
-  run_answers,
   run_of,
 };
 
@@ -56,15 +55,13 @@ pub fn answers_of_scripts()
     ensures no_memory { is_refusal None ≡ false }
 {}
 
-/// Two workers with runs of two lines answer three: a command that is done, a bad path, and an undo
-/// with nothing to undo. The second worker begins with the third number and the second reply.
+/// Two workers answer three lines: a command that is done, a bad path, and an undo with nothing to
+/// undo. The first answers two lines. The second begins with the third number and the second reply.
 pub fn answers_of_workers()
-    ensures first { run_answers 2 0 (None ∷ Some trace.BadPath ∷ None ∷ []) (model.Done ∷ model.NothingToUndo ∷ [])
+    ensures first { answers_from 1 (None ∷ Some trace.BadPath ∷ []) (model.Done ∷ [])
         ≡ codes "1 ok\n2 refused path\n" }
-    ensures second { run_answers 2 1 (None ∷ Some trace.BadPath ∷ None ∷ []) (model.Done ∷ model.NothingToUndo ∷ [])
+    ensures second { answers_from 3 (None ∷ []) (model.NothingToUndo ∷ [])
         ≡ codes "3 refused nothing\n" }
-    ensures third { run_answers 2 2 (None ∷ Some trace.BadPath ∷ None ∷ []) (model.Done ∷ model.NothingToUndo ∷ [])
-        ≡ [] }
     ensures together { answers_from 1 (None ∷ Some trace.BadPath ∷ None ∷ []) (model.Done ∷ model.NothingToUndo ∷ [])
         ≡ codes "1 ok\n2 refused path\n3 refused nothing\n" }
     ensures run { run_of {X = ℕ} 2 1 (10 ∷ 11 ∷ 12 ∷ 13 ∷ 14 ∷ []) ≡ 12 ∷ 13 ∷ [] }
