@@ -1,6 +1,7 @@
 /* What mk_get shows that mk_read doesn't: the freezer, cgroup.threads and the files that never change. What is expected is what a mount
    shows, as mount/tests/processes/freezer.py has it. Exits with 1 at the first difference; prints how many checks held. */
 #include "check.h"
+#include <assert.h>
 
 enum { CROWD = 3000 }; /* their list is longer than the longest line and its answer */
 
@@ -87,6 +88,16 @@ static int others(void)
 	}
 	CHECK(mk_get(&h, "/a", "none", text, sizeof text, &info) == MK_FAULT && info.error == ENOENT);
 	CHECK(mk_get(&h, "/a b", "cgroup.type", text, sizeof text, &info) == MK_FAULT && info.error == ENOENT);
+	CHECK(mk_get(&h, "a", "cgroup.type", text, sizeof text, &info) == MK_FAULT && info.error == ENOENT);
+	CHECK(mk_get(&h, "", "cgroup.type", text, sizeof text, &info) == MK_FAULT && info.error == ENOENT);
+	static char path[PATH_BYTES + 2];
+	for (size_t at = 0; at <= PATH_BYTES; at++)
+		path[at] = at % 2 == 0 ? '/' : 'x';
+	CHECK(mk_get(&h, path, "cgroup.type", text, sizeof text, &info) == MK_FAULT && info.error == ENAMETOOLONG);
+	/* an injected error whose number is also a code */
+	static_assert(EDOM == MK_PATH, "the number of EDOM");
+	CHECK(mk_fail(&h, "/a", 1, EDOM, &info) == MK_DONE);
+	CHECK(mk_get(&h, "/a", "cgroup.type", text, sizeof text, &info) == MK_FAILED && info.error == EDOM);
 	/* the size that is enough */
 	CHECK(mk_get(&h, "/a", "cgroup.type", text, 7, &info) == MK_TOO_SMALL && info.needed == 8 && info.len == 0);
 	CHECK(mk_get(&h, "/a", "cgroup.type", text, 8, &info) == MK_DONE && strcmp(text, "domain\n") == 0);
