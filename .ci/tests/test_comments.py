@@ -35,6 +35,20 @@ class Comments(unittest.TestCase):
         texts[path] += "// See `specs/Top.antt`.\n"
         self.assertEqual(list(faults_of_comments(texts, CRATES)), [f"{path}:4: there is no specs/Top.antt"])
 
+    def test_a_file_of_a_crate_two_below(self):
+        listing = "low:\nmiddle: low\nhigh staticlib: middle\n"
+        self.assertEqual(list(faults_of_comments(TEXTS, listing)), [])
+
+    def test_a_file_of_another_crate_than_it_says(self):
+        path = "crates/high/src/lib.rt"
+        said = "// In `high/src/sum.rt`, and in `specs/Su`.\n"
+        missing = [f"{path}:1: there is no {file}" for file in ("high/src/sum.rt", "specs/Su")]
+        self.assertEqual(self.faults(path, said), missing)
+
+    def test_a_name_in_parentheses_in_another_paragraph_is_no_file(self):
+        path = "crates/low/src/lib.rt"
+        self.assertEqual(self.faults(path, TEXTS[path] + "//!\n//! It adds (`Adds`).\n"), [])
+
     def test_an_item_that_only_a_comment_has(self):
         path = "crates/low/src/sum.rt"
         self.assertEqual(

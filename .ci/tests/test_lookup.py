@@ -280,6 +280,15 @@ class ObjectsOfOtherLanguages(unittest.TestCase):
         self.assertEqual(of.calls("a.py", "peak", "Tree"), {3: True, 7: False})
         self.assertEqual(of.calls("b.py", "peak", "Tree"), {2: True, 3: None, 5: True, 7: False, 8: True})
 
+    def test_a_name_is_what_it_was_last_bound_to(self):
+        text = "def f():\n    z = Other()\n    z.peak()\n    z = Tree()\n    z.peak()\n"
+        of = objects.Objects({**self.TEXTS, "c.py": text})
+        self.assertEqual(of.calls("c.py", "peak", "Tree"), {3: False, 5: True})
+
+    def test_a_method_of_one_line(self):
+        text = "class Oak:\n    def peak(self): return self.peak()\nclass Elm:\n    def peak(self): return self.peak()\n"
+        self.assertEqual(objects.Objects({"c.py": text}).calls("c.py", "peak", "Elm"), {2: False, 4: True})
+
     def test_an_inherited_method_is_that_of_the_class_that_defines_it(self):
         of = objects.Objects(
             {

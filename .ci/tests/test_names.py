@@ -40,6 +40,23 @@ class Constants(unittest.TestCase):
             ],
         )
 
+    def owners(self, value, **texts):
+        """The constants of that value in files of Python with these names and texts."""
+        return [(path[0], said) for path, _, said in numbers.owners(value, {f"{it}.py": texts[it] for it in texts})]
+
+    def test_a_name_is_first_that_of_its_own_file(self):
+        texts = {"a": "A = 1\n", "b": "A = 2\nB = A\n"}
+        self.assertEqual(self.owners(1, **texts), [("a", "A = 1")])
+        self.assertEqual(self.owners(2, **texts), [("b", "A = 2"), ("b", "B = A")])
+
+    def test_a_name_may_be_known_later(self):
+        texts = {"a": "A = B\n", "b": "B = C\n", "c": "C = 7\n"}
+        self.assertEqual(self.owners(7, **texts), [("a", "A = B"), ("b", "B = C"), ("c", "C = 7")])
+
+    def test_what_is_not_known_is_no_number(self):
+        self.assertEqual(self.owners(0, a="A = OTHER + 1\n"), [])
+        self.assertEqual(self.owners(1024, a="A, B = call(X, 1024, Y), 3\n"), [])
+
     def test_the_first_enumerator_is_zero(self):
         self.assertEqual([*numbers.owners(0, self.TEXTS)], [("a.h", 2, "FIRST = 0")])
 
@@ -102,7 +119,30 @@ class Table(unittest.TestCase):
         self.assertEqual(names.same_things("rmdir", self.TEXTS), ([], []))
 
 
+    def test_a_variant_is_that_of_the_whole_name(self):
+        rows = [("file", name, "no", "yes", "-", "-", "-") for name in ("pids.events", "pids.events.local")]
+        variants = 'File::Events => Row::new(b"pids.events"),\nFile::Local => Row::new(b"pids.events.local"),\n'
+        texts = {names.TABLE: "".join("\t".join(row) + "\n" for row in rows), names.FILES: variants}
+        self.assertEqual(names.same_things("pids.events", texts)[0], ["Events"])
+        self.assertEqual(names.same_things("pids.events.local", texts)[0], ["Local"])
+
+    def test_a_number_that_no_table_has(self):
+        self.assertEqual(names.same_things("2048", {})[0], ["2,048", "2_048"])
+        self.assertEqual(names.same_things("999", {})[0], [])
+
+
 class Names(unittest.TestCase):
+    def test_a_name_of_a_file_is_no_part_of_a_longer_one(self):
+        for text in ("pids.events.local", "x.pids.events", "pids.events_2"):
+            self.assertFalse(names.pattern_of(["pids.events"]).search(text), text)
+        for text in ("It is in pids.events.", "a/pids.events", "(pids.events)", "pids.events, pids.max"):
+            self.assertTrue(names.pattern_of(["pids.events"]).search(text), text)
+
+    def test_files_and_folders_of_a_name(self):
+        texts = dict.fromkeys(("a/tests/one.py", "a/tests/two.py", "b/tests/x/three.py", "c/tests.py"), "")
+        self.assertEqual(names.files_named("tests", texts), ["a/tests/ 2 files", "b/tests/ 1 file", "c/tests.py"])
+        self.assertEqual(names.files_named("a/tests", texts), ["a/tests/ 2 files"])
+
     def test_a_name_with_hyphens_is_no_part_of_a_longer_one(self):
         for name, longer in (
             ("limit-of-zero", "limit-of-zero-is-none"),
