@@ -147,8 +147,9 @@ class Whole(MadeUp):
         for target, fault in (
             *(
                 (it, None)
-                for it in ("A.md", "../docs/A.md", "../docs", "A.md#another", "A.md#a-title-code-two", "https://a.b")
+                for it in ("A.md", "../docs/A.md", "../docs", "A.md#another", "A.md#a-title-code-two")
             ),
+            *((it, None) for it in ("https://a.b", "http://a.b/c.md", "mailto:a@b.c")),
             ("B.md", "no page B.md"),
             ("A.md#no-heading", "no heading A.md#no-heading"),
             ("../docs#another", "no heading ../docs#another"),
@@ -363,7 +364,7 @@ class Kits(unittest.TestCase):
 
 
 class Paths(unittest.TestCase):
-    FILES = ("crates/low/src/number.rt", "bindings/c/parser.c", "top/script")
+    FILES = ("crates/low/src/number.rt", "bindings/c/parser.c", "top/script", ".ci/run")
 
     def faults_of(self, line):
         with mock.patch.object(documents, "sources", lambda: iter(self.FILES)), mock.patch.object(
@@ -372,7 +373,7 @@ class Paths(unittest.TestCase):
             return list(documents.faults_of_paths(documents.Repository(), "a.md", 3, line))
 
     def test_a_path_that_leads_to_a_file_or_a_folder(self):
-        for line in ("`bindings/c/parser.c`", "`low/src`, `src/number.rt`", "`./top/script --check`", "`bindings/c/`"):
+        for line in ("`bindings/c/parser.c`", "`low/src`, `src/number.rt`", "`./top/script --check`", "`bindings/c/`", "`.ci/run`"):
             self.assertEqual(self.faults_of(line), [], line)
 
     def test_a_path_that_leads_nowhere(self):

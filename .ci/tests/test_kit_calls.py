@@ -7,6 +7,7 @@ from unittest import main, mock
 from scripts import TOP, MadeUp, load
 
 slowest = load(".ci/slowest")
+assumed = load(".ci/assumed")
 # It notes its words, and proves three functions: one at once, one that takes processor time, one at once.
 RATTLE = """#!/bin/bash
 printf '%%s\\n' "$PWD" "$@" >%s/calls
@@ -96,6 +97,13 @@ class OverLibraries(MadeUp):
         self.assertEqual(words, [*self.words("c_library"), *more, "-o", "out/libc_library.a"])
         self.assertEqual(self.read("compared"), "c_library logic=proved functions=3\n")
         self.assertEqual(self.read("crates/c_library/out/libc_library.a"), "built\n")
+
+    def test_what_is_assumed_is_asked_of_a_program_and_of_the_library(self):
+        for crate, kind in (("program", []), ("c_library", ["--crate-type", "staticlib"])):
+            with mock.patch.object(assumed, "ROOT", self.top):
+                self.assertEqual(assumed.check(crate), "logic=proved functions=3\n")
+            called = [f"{self.top}/crates/{crate}", "check", *self.words(crate), *kind, "--list-axioms", "--jobs", "1"]
+            self.assertEqual(self.read("calls").splitlines(), called)
 
     def test_a_library_that_is_not_proved_is_no_library(self):
         self.write("fails", "")

@@ -74,6 +74,12 @@ class Laws(MadeUp):
         self.write("crates/low/src/desk.rt", DESK.replace("self.now }\n    {", "self.now }\n    " + more, 1))
         self.assertEqual(len(self.run_with(status=1)), 1)
 
+    def test_every_call_is_named(self):
+        more = "    pub fn again(&self)\n        ensures { count self.now ≡ 1 }\n    {\n    }\n"
+        self.write("crates/low/src/desk.rt", DESK.replace("    fn step", more + "\n    fn step"))
+        fault = "low Count.count: no law names it, and Desk::count, Desk::again cites it"
+        self.assertEqual(self.run_with(status=1), [fault])
+
     def test_a_clause_of_a_test_needs_no_law(self):
         self.write("crates/low/src/desk.rt", "//! Empty.\n")
         for crate in ("low_tests", "test_desk"):
@@ -81,7 +87,7 @@ class Laws(MadeUp):
         self.assertEqual(self.run_with(), [])
 
     def test_a_definition_on_the_list_needs_no_law_yet(self):
-        self.write(".ci/lookup/without-laws", "# none yet\nlow Count.count\n")
+        self.write(".ci/lookup/without-laws", "# none yet\n\nlow Count.count\n\n")
         self.assertEqual(self.run_with(), [])
 
     def test_a_definition_with_a_law_comes_off_the_list(self):

@@ -348,7 +348,10 @@ class Definitions(unittest.TestCase):
         "a.sh": ("IT() {", "IT=1"),
         "script": ("IT() {", "def IT():"),
         "a.mutants": ("== IT",),
-        "crates/a/specs/A.antt": ("abbrev pub IT = 1", "  pub IT : X", "unfoldable IT x = x"),
+        "crates/a/specs/A.antt": (
+            *("abbrev pub IT = 1", "unfoldable IT x = x", "data pub IT : Type 0", "record pub IT : Type 0", "rel pub IT : X"),
+            *("  pub IT : X", "  IT : X"),
+        ),
     }
     MENTION = ("x(IT)", "  return IT(x);", "call IT", "#ifdef IT", "// fn IT", "import IT", "x.IT = 1", "old: IT")
 

@@ -213,7 +213,8 @@ class Promised(MadeUp):
         self.assertEqual(lines[-1], "11 passed, 1 failed")
 
     def test_words_are_refused(self):
-        self.assertIn(".ci/promised [--write]", self.said("--wrong", status=2))
+        for words in (["--wrong"], ["--write", "more"], ["--write", "--write"]):
+            self.assertIn(".ci/promised [--write]", self.said(*words, status=2))
 
 
 class OfThisRepository(MadeUp):
