@@ -60,7 +60,8 @@ class Assumed(MadeUp):
         self.said("--write")
         rows = [row for row in self.read("docs/PROVED.md").split("\n") if "function_" in row]
         self.assertEqual(len(rows), 3)
-        self.assertTrue(all(len(cell) <= 200 for row in rows for cell in row.split("|")))
+        widest = self.program.WIDTH + len(", ")
+        self.assertTrue(all(len(cell.strip()) <= widest for row in rows for cell in row.split("|")))
         self.said()
 
     def test_more_and_fewer_functions_than_the_page_has(self):

@@ -125,6 +125,12 @@ class OverLibraries(MadeUp):
         self.run_with("--tests", "--most", "2", "high")
         self.assertEqual(self.read("calls").splitlines()[-2:], ["--progress", "--test"])
 
+    def test_the_seconds_of_a_function_are_those_since_the_last_one(self):
+        seconds = iter((1.0, 5.0, 5.5, 8.0))
+        self.patch("used", lambda pid: next(seconds))
+        lines = ["high: 8 s, 3 functions", "     4.0 s  50.0 %  high::slow", "     1.0 s  12.5 %  high::quick"]
+        self.assertEqual(self.run_with("high"), [*lines, "     0.5 s   6.2 %  high::last"])
+
     def test_a_crate_that_is_not_proved_is_told(self):
         self.write("fails", "")
         self.assertEqual(self.run_with("high", "low", status=1), ["high: not proved", "low: not proved"])
@@ -132,6 +138,11 @@ class OverLibraries(MadeUp):
     def test_other_words_are_refused(self):
         for words in ([], ["no-such-crate"], ["--most", "x", "high"], ["--alone", "high"]):
             self.assertIn(".ci/slowest [--tests]", self.said(*words, status=2))
+
+    def test_the_seconds_of_a_function_alone_are_those_above_a_check_that_loses_nothing(self):
+        os.makedirs(f"{self.top}/crates/high/out/incremental")
+        self.patch("again", lambda crate, pattern: (2.0, 0) if pattern == "(?!)" else (5.5, 1))
+        self.assertEqual(self.run_with("--alone", "high", "high::at"), ["     3.5 s  high::at"])
 
     def test_a_function_alone_is_that_of_its_modules(self):
         """Its modules are checked again, and nothing is taken from what is kept."""

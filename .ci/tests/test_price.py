@@ -91,6 +91,24 @@ class Price(MadeUp):
             self.assertLess(began, ended)
             self.assertTrue(0.2 < used < 3, used)
 
+    def test_a_process_keeps_its_part_and_the_most_seconds_that_were_seen(self):
+        """When it ends it has no words any more, and no children whose seconds count."""
+        at, words = "/tmp/price-x/clone/crates/a", ["rattle", "check", "--crate-name", "a"]
+        below = (10, 3.0, 6, words, at)
+        seen = iter(({10: (1, 2.0, 5, words, at), 11: below}, {10: (1, 2.5, 5, [""], at)}, {}))
+
+        def processes():
+            found = next(seen, None)
+            if found is None:
+                self.write("ended", "")
+            return found or {}
+
+        self.patch("processes", processes)
+        waits = ["sh", "-c", f"while [ ! -e {self.top}/ended ]; do sleep 0.01; done"]
+        with contextlib.redirect_stderr(io.StringIO()):
+            *_, parts = price.watched(waits, self.top, dict(os.environ))
+        self.assertEqual([(part, used) for part, _, _, used in parts], [(("a", "proof"), 5.0)])
+
     def test_other_words_are_refused(self):
         for words in (["--slow"], ["--side", "--side"]):
             self.assertIn(".ci/price --side", self.said(*words, status=2))

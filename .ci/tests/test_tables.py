@@ -185,6 +185,12 @@ class Tables(unittest.TestCase):
             ["| `counts`, `exact` | the count is right |", "| `only` | nothing else |"],
         )
 
+    def test_fields_above_the_first_comment(self):
+        text = "pub record KeepsHistory : Type 0 where\n  pub first : A\n  pub again : A\n  -- the rest\n  pub rest : A\n"
+        found = tables.Crates({"crates/undo_journal/specs/Headline.antt": text}, ["undo_journal"])
+        rows = list(tables.table_of_headline(found))[3:]
+        self.assertEqual(rows, ["| `first`, `again` |  |", "| `rest` | the rest |"])
+
     def test_a_definition_without_a_comment_shows_what_it_is(self):
         text = (
             "-- Limits.\nuse Rattle.std.specs.Prelude.{ℕ}\n\npub data Limit : Type 0 where\n  -- none\n  Unlimited : Limit\n"
@@ -243,6 +249,13 @@ class Pages(MadeUp):
         )
         self.assertEqual(self.run_with(), ["removed docs/reference/gone.md"])
         self.assertFalse(os.path.exists(f"{self.top}/docs/reference/gone.md"))
+
+    def test_a_page_has_each_part_once(self):
+        part = self.PROVED % ""
+        for text in ("# Proved\n", part + part, part.replace("headline", "another")):
+            self.write("docs/PROVED.md", text)
+            with self.assertRaisesRegex(SystemExit, "^docs/PROVED.md: not the parts headline$"):
+                self.run_with()
 
     def test_a_page_that_was_edited_is_found(self):
         self.run_with()

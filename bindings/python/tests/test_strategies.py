@@ -13,7 +13,7 @@ from hypothesis import HealthCheck, given, settings  # noqa: E402
 from hypothesis import strategies as st  # noqa: E402
 from hypothesis.stateful import invariant, run_state_machine_as_test  # noqa: E402
 
-from makhloeum import BadPath, Hierarchy, PidsMax, Refused  # noqa: E402
+from makhloeum import BadPath, Depth, Descendants, Hierarchy, PidsMax, Refused  # noqa: E402
 from makhloeum._table import DEPTH_MAX, NAME_MAX, PID_MAX, PIDS_LIMIT_MAX, TEXT_MAX  # noqa: E402
 from makhloeum.strategies import HierarchyMachine, _blocking, _is_full, _is_name  # noqa: E402
 from makhloeum.strategies import commands, limits, names, paths, pids  # noqa: E402
@@ -200,6 +200,48 @@ def test_each_kind_of_limit_refuses_one_command_in_twenty(examples, steps):
     for kind in ("PidsMax", "Descendants", "Depth"):
         assert COUNTS[kind] >= COUNTS["all"] / 20, COUNTS
     assert COUNTS["str"] >= COUNTS["all"] / 3, COUNTS
+
+
+class Recorded(HierarchyMachine):
+    """Keeps its commands, each with the error if it was refused."""
+
+    def __init__(self):
+        super().__init__()
+        self.done = []
+
+    def do(self, line):
+        told = super().do(line)
+        self.done.append((line, told if isinstance(told, Refused) else None))
+        return told
+
+
+@FEW
+@given(st.data(), st.sampled_from((("fork", "fork"), ("exit", "exit"), ("move", "write"))))
+def test_a_rule_for_a_process_undoes_a_command_where_there_is_none(data, names_of_rule):
+    rule, verb = names_of_rule
+    machine = Recorded()
+    with machine.h as h:
+        h.line("exit 1")
+        getattr(machine, rule)(data=data)
+        assert machine.done == [("undo", None)] and h.processes("/") == [1]
+        machine.done.clear()
+        getattr(machine, rule)(data=data)
+        assert [line.split(" ")[0] for line, _ in machine.done] == [verb]
+
+
+@FEW
+@given(st.data(), st.sampled_from((("cgroup.max.depth", Depth), ("cgroup.max.descendants", Descendants))))
+def test_a_limit_is_set_on_the_group_that_it_then_blocks(data, limit):
+    file, refused = limit
+    machine = Recorded()
+    with machine.h as h:
+        for path in ("/a", "/b", "/b/a"):
+            h.mkdir(path)
+        machine._mkdir_at(data, file)
+    (written, _), (first, error), (second, again) = machine.done
+    group = written.split(" ")[1]
+    assert written.startswith(f"write {group} {file} ") and first == second and first.startswith(f"mkdir {group}/")
+    assert isinstance(error, refused) and isinstance(again, refused)
 
 
 def test_a_new_group_is_blocked_exactly_by_the_limit_that_refuses_it():

@@ -255,6 +255,17 @@ test("a search goes to the match at the moment, or the next one", async () => {
   assert.deepStrictEqual([prevented, at("found").textContent], [true, "2 of 5"]);
 });
 
+test("the only match can be gone to again", async () => {
+  const { at, key, moment, search } = await open(DATA, "#line=1");
+  assert.deepStrictEqual(search("kill"), ["1 of 1", 9]);
+  for (const name of ["n", "N"]) {
+    key("ArrowRight");
+    assert.strictEqual(at("found").textContent, "– of 1");
+    key(name);
+    assert.deepStrictEqual([at("found").textContent, moment()], ["1 of 1", 9]);
+  }
+});
+
 test("a search for a process shows its life", async () => {
   const { at, search } = await open(DATA, "#line=1"), rows = () => at("life").querySelectorAll("tr").map((row) => row.children.map((one) => one.textContent));
   assert.deepStrictEqual(search("2"), ["1 of 6", 3]);
