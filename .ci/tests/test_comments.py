@@ -49,6 +49,10 @@ class Comments(unittest.TestCase):
         path = "crates/low/src/lib.rt"
         self.assertEqual(self.faults(path, TEXTS[path] + "//!\n//! It adds (`Adds`).\n"), [])
 
+    def test_a_name_above_the_first_comment_is_there(self):
+        path = "crates/low/src/sum.rt"
+        self.assertEqual(self.faults(path, "fn add() {}\nfn above_it() {}\n// As above_it has it.\n"), [])
+
     def test_an_item_that_only_a_comment_has(self):
         path = "crates/low/src/sum.rt"
         self.assertEqual(
@@ -81,7 +85,7 @@ class Comments(unittest.TestCase):
     def test_an_edit_without_a_name(self):
         path = "crates/low/must-fail-more/one.edit"
         self.assertEqual(self.faults(path, "file: src/sum.rt\n"), [f"{path}: no line `# breaks: NAME`"])
-        for name in ("Sum.Few", "Total.Adds", "Sum::take", "take"):
+        for name in ("Sum.Few", "Total.Adds", "um.Adds", "Sum::take", "take"):
             with self.subTest(name):
                 self.assertEqual(
                     self.faults(path, f"# breaks: {name}\n"), [f"{path}: breaks {name}, which is not there"]

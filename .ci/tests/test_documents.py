@@ -182,6 +182,7 @@ class Whole(MadeUp):
             ("`program.py` (`second`)", ["second is not in program.py"]),
             ("`Sum` (`Adds`, `Other`)", ["Other is not in Sum"]),
             ("`Nothing` (`Adds`)", []),
+            ("`Nothing` (`Adds`), `notes` (`second`), `Sum` (`Other`)", ["Other is not in Sum"]),
         ):
             found = [*documents.faults_of_items(repository, "a.md", 3, line)]
             self.assertEqual(found, [f"a.md:3: {fault}" for fault in faults], line)

@@ -82,6 +82,12 @@ class Recipes(MadeUp):
         self.patch("SECONDS", 0.5)
         self.assertIn("sleep 1000: no end", self.second("sleep 1000"))
 
+    def test_what_is_about_to_go_is_waited_for(self):
+        for left in ((["7"], []), ([], ["a mount"])):
+            seen = iter((left, left, ([], []), ([], [])))
+            self.patch("left_by", lambda folder, seen=seen: next(seen))
+            self.second("true", status=0)
+
     def test_a_process_that_is_left_fails(self):
         with mock.patch.object(recipes.time, "monotonic", side_effect=[0, 1, 99, 99, 99, 99]):
             said = self.second("sleep 3 > /dev/null 2>&1 &")
