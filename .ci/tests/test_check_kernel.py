@@ -76,12 +76,19 @@ class Kernel(TestCase):
     def test_the_machine_has_what_the_check_needs(self):
         self.assertEqual(self.ran()[0], 0)
         python = f"{sys.base_prefix}/bin/python{sys.version_info[0]}.{sys.version_info[1]}"
-        needed = [os.__file__, __import__("encodings.idna").idna.__file__, __import__("wave").__file__, *self.libraries_of(python)]
+        needed = [
+            os.__file__,
+            __import__("encodings.idna").idna.__file__,
+            __import__("wave").__file__,
+            *self.libraries_of(python),
+        ]
         late = __import__("_ctypes").__file__
         needed += [late, *self.libraries_of(late), *self.libraries_of(LIBRARY)]
         self.assertGreater(len(needed), 5)
         self.assertEqual([path for path in needed if not os.path.isfile(self.initramfs(path))], [])
-        self.assertTrue(os.access(self.initramfs("usr/bin/python3"), os.X_OK) and os.access(self.initramfs("init"), os.X_OK))
+        self.assertTrue(
+            os.access(self.initramfs("usr/bin/python3"), os.X_OK) and os.access(self.initramfs("init"), os.X_OK)
+        )
         self.assertTrue(os.access(self.initramfs("bin/busybox"), os.X_OK))
         package = self.initramfs("makhloeum/makhloeum")
         self.assertEqual(self.text(f"{package}/__init__.py"), "package\n")

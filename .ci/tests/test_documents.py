@@ -145,10 +145,7 @@ class Whole(MadeUp):
         self.write("docs/A.md", "# A title: `code`, two\n\n    # no heading\n\n## Another\n")
         repository = documents.Repository()
         for target, fault in (
-            *(
-                (it, None)
-                for it in ("A.md", "../docs/A.md", "../docs", "A.md#another", "A.md#a-title-code-two")
-            ),
+            *((it, None) for it in ("A.md", "../docs/A.md", "../docs", "A.md#another", "A.md#a-title-code-two")),
             *((it, None) for it in ("https://a.b", "http://a.b/c.md", "mailto:a@b.c")),
             ("B.md", "no page B.md"),
             ("A.md#no-heading", "no heading A.md#no-heading"),
@@ -374,7 +371,13 @@ class Paths(unittest.TestCase):
             return list(documents.faults_of_paths(documents.Repository(), "a.md", 3, line))
 
     def test_a_path_that_leads_to_a_file_or_a_folder(self):
-        for line in ("`bindings/c/parser.c`", "`low/src`, `src/number.rt`", "`./top/script --check`", "`bindings/c/`", "`.ci/run`"):
+        for line in (
+            "`bindings/c/parser.c`",
+            "`low/src`, `src/number.rt`",
+            "`./top/script --check`",
+            "`bindings/c/`",
+            "`.ci/run`",
+        ):
             self.assertEqual(self.faults_of(line), [], line)
 
     def test_a_path_that_leads_nowhere(self):

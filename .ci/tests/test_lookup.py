@@ -286,7 +286,9 @@ class ObjectsOfOtherLanguages(unittest.TestCase):
         self.assertEqual(of.calls("c.py", "peak", "Tree"), {3: False, 5: True})
 
     def test_a_method_of_one_line(self):
-        text = "class Oak:\n    def peak(self): return self.peak()\nclass Elm:\n    def peak(self): return self.peak()\n"
+        text = (
+            "class Oak:\n    def peak(self): return self.peak()\nclass Elm:\n    def peak(self): return self.peak()\n"
+        )
         self.assertEqual(objects.Objects({"c.py": text}).calls("c.py", "peak", "Elm"), {2: False, 4: True})
 
     def test_an_inherited_method_is_that_of_the_class_that_defines_it(self):
@@ -349,7 +351,13 @@ class Definitions(unittest.TestCase):
         "script": ("IT() {", "def IT():"),
         "a.mutants": ("== IT",),
         "crates/a/specs/A.antt": (
-            *("abbrev pub IT = 1", "unfoldable IT x = x", "data pub IT : Type 0", "record pub IT : Type 0", "rel pub IT : X"),
+            *(
+                "abbrev pub IT = 1",
+                "unfoldable IT x = x",
+                "data pub IT : Type 0",
+                "record pub IT : Type 0",
+                "rel pub IT : X",
+            ),
             *("  pub IT : X", "  IT : X"),
         ),
     }

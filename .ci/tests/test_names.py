@@ -118,7 +118,6 @@ class Table(unittest.TestCase):
             self.assertEqual(sorted({"SLOTS", "1024", "1,024", "1_024"} - {name}), others, name)
         self.assertEqual(names.same_things("rmdir", self.TEXTS), ([], []))
 
-
     def test_a_variant_is_that_of_the_whole_name(self):
         rows = [("file", name, "no", "yes", "-", "-", "-") for name in ("pids.events", "pids.events.local")]
         variants = 'File::Events => Row::new(b"pids.events"),\nFile::Local => Row::new(b"pids.events.local"),\n'

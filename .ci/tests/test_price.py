@@ -83,7 +83,9 @@ class Price(MadeUp):
         said = io.StringIO()
         with contextlib.redirect_stderr(said):
             status, lines, _, parts = price.watched(words, self.top, dict(os.environ))
-        self.assertEqual((status, lines, said.getvalue()), (3, ["an error", "the last line"], "an error\nthe last line\n"))
+        self.assertEqual(
+            (status, lines, said.getvalue()), (3, ["an error", "the last line"], "an error\nthe last line\n")
+        )
         # provers of other sessions on this machine are seen too
         ours = [it for it in parts if it[0][0].startswith("made_up")]
         self.assertEqual([part for part, *_ in ours], [("made_up_one", "proof"), ("made_up_two", "tests")])

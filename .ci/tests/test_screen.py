@@ -35,7 +35,9 @@ class Bounds(unittest.TestCase):
 
     def test_files_are_counted_by_the_deepest_folders_that_fit(self):
         hits = {f"a{at % 2}/b{at % 4}/c{at}/{name * 20}": [1] for at in range(40) for name in "xy"}
-        self.assertEqual(fitting(hits, 1, of_numbers), ["a0/b0/ 20 files; a0/b2/ 20 files; a1/b1/ 20 files; a1/b3/ 20 files"])
+        self.assertEqual(
+            fitting(hits, 1, of_numbers), ["a0/b0/ 20 files; a0/b2/ 20 files; a1/b1/ 20 files; a1/b3/ 20 files"]
+        )
 
 
 if __name__ == "__main__":

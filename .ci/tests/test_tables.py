@@ -186,7 +186,9 @@ class Tables(unittest.TestCase):
         )
 
     def test_fields_above_the_first_comment(self):
-        text = "pub record KeepsHistory : Type 0 where\n  pub first : A\n  pub again : A\n  -- the rest\n  pub rest : A\n"
+        text = (
+            "pub record KeepsHistory : Type 0 where\n  pub first : A\n  pub again : A\n  -- the rest\n  pub rest : A\n"
+        )
         found = tables.Crates({"crates/undo_journal/specs/Headline.antt": text}, ["undo_journal"])
         rows = list(tables.table_of_headline(found))[3:]
         self.assertEqual(rows, ["| `first`, `again` |  |", "| `rest` | the rest |"])
