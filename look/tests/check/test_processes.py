@@ -323,6 +323,18 @@ def test_an_abandoned_worker_takes_its_processes_along(monkeypatch):
     assert until(lambda: is_over(at.pid)) and until(lambda: is_over(pid))
 
 
+def test_a_worker_is_waited_for_as_long_as_its_limit(monkeypatch):
+    at = Worker(0.3)
+    told = []
+    monkeypatch.setattr(worker.select, "select", lambda *words: told.append(words[3]) or ([], [], []))
+    with pytest.raises(Hang):
+        at.ask("end")
+    monkeypatch.undo()
+    at.abandon()
+    (left,) = told
+    assert 0 <= left <= 0.3
+
+
 def test_names_of_errors():
     assert error_name(OSError(errno.EBUSY, "")) == "EBUSY" and error_name(OSError(4711, "")) == "errno 4711"
     assert error_name(OSError("without a number")) == "errno None"
