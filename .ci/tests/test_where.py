@@ -401,6 +401,13 @@ class OfAMadeUpRepository(unittest.TestCase):
         of_all = "mount/ all 2 of run/births.c.mutants (run/births.c.mutants:1)"
         self.assertEqual(self.screen("mount/src/run/births.c")[1:], [f"mutants     {of_all}"])
 
+    def test_the_lines_of_a_mutant_are_those_from_its_name_to_its_test(self):
+        path = "mount/mutants/run/births.c.mutants"
+        found = [*mutants.named(path, self.TEXTS[path], [1, 3, 7, 9, 12])]
+        of_all = ("mount/ all 2 of run/births.c.mutants", [1])
+        late = [("mount/a_birth_is_late", [3, 7]), ("mount/a_birth_is_late_again", [9, 12])]
+        self.assertEqual(found, [of_all, *late])
+
     def test_recordings_fill_no_screen(self):
         self.assertIn("recordings  evidence/linux-6.1/rows.recorded(5000)", self.screen("births"))
 
