@@ -8,6 +8,7 @@ import re
 import signal
 import subprocess
 import sys
+import tempfile
 import unittest
 from unittest import mock
 
@@ -424,6 +425,16 @@ class OfAMadeUpRepository(unittest.TestCase):
         with mock.patch.object(where, "repository", lambda: self.TEXTS), contextlib.redirect_stdout(said):
             self.assertEqual(where.main(["absent"]), 1)
         self.assertEqual(said.getvalue(), "absent: no file of the repository has it\n")
+
+
+class WithoutGit(unittest.TestCase):
+    def test_every_file_but_built_ones_is_read(self):
+        with tempfile.TemporaryDirectory() as top, mock.patch.object(where, "ROOT", top):
+            for path in ("a", "b/c.py", "b/out/built", ".git/config", "b/__pycache__/c.pyc"):
+                os.makedirs(os.path.dirname(f"{top}/{path}"), exist_ok=True)
+                with open(f"{top}/{path}", "w", encoding="utf-8") as it:
+                    it.write(f"text of {path}")
+            self.assertEqual(where.repository(), {path: f"text of {path}" for path in ("a", "b/c.py")})
 
 
 class OfFewAndOfMany(unittest.TestCase):

@@ -92,7 +92,9 @@ func TestFaultOfAPath(t *testing.T) {
 		_, here := h.HasGroup(row.path)
 		_, below := h.Children(row.path)
 		_, text := h.Read(row.path, "x y")
-		for _, err := range []error{h.Mkdir(row.path), h.Rmdir(row.path), h.Write(row.path, "x", "y"), here, below, text} {
+		_, pids := h.Processes(row.path)
+		_, count := h.Current(row.path)
+		for _, err := range []error{h.Mkdir(row.path), h.Rmdir(row.path), h.Write(row.path, "x", "y"), here, below, text, pids, count} {
 			var refused *Refused
 			if !errors.As(err, &refused) || refused.Code != BadPath || refused.PathFault != row.fault || refused.Position != row.position {
 				t.Errorf("%q: %v", row.path, err)

@@ -33,6 +33,9 @@ static int freezes(void)
 	CHECK(shows(&h, "/a", "cgroup.freeze", "0\n") && !is_frozen(&h, "/a"));
 	CHECK(mk_changes(&h, &before) == MK_DONE && put("/a", "1\n") == 0 && mk_changes(&h, &after) == MK_DONE);
 	CHECK(before == after && mk_depth(&h, &depth) == MK_DONE && depth == 4); /* it is no command */
+	/* neither is a planned fault a change */
+	CHECK(mk_fail(&h, "/ab", 9, EIO, &info) == MK_DONE && mk_vanish(&h, "/ab", 9, &info) == MK_DONE);
+	CHECK(mk_changes(&h, &after) == MK_DONE && before == after && mk_clear_faults(&h, &depth) == MK_DONE && depth == 2);
 	CHECK(shows(&h, "/a", "cgroup.freeze", "1\n") && shows(&h, "/a", "cgroup.events", "populated 1\nfrozen 1\n"));
 	CHECK(shows(&h, "/a/b", "cgroup.freeze", "0\n") && is_frozen(&h, "/a/b") && !is_frozen(&h, "/ab"));
 	/* not in the engine's text */

@@ -263,6 +263,8 @@ def test_names_beside_a_descriptor(h, real):
         fd = os.open(top, os.O_RDONLY | os.O_DIRECTORY)
         assert os.stat("a", dir_fd=fd).st_ino == os.stat(f"{top}/a").st_ino == os.lstat("a", dir_fd=fd).st_ino
         assert os.stat("./a/../a/pids.max", dir_fd=fd).st_size == 4 and os.access("a/pids.max", os.R_OK, dir_fd=fd)
+        with pytest.raises(FileNotFoundError):
+            os.stat("none/../a", dir_fd=fd)
         assert not os.access("b", os.F_OK, dir_fd=fd) and code(os.stat, "b", dir_fd=fd) == "ENOENT"
         assert (
             os.mkdir("b", dir_fd=fd) is None

@@ -240,6 +240,8 @@ def test_descriptors(h):
         and os.lseek(fd, 0, os.SEEK_SET) == 0
     )
     assert os.read(fd, 100) == b"5\n" and os.fstat(fd).st_size == 2 and stat.S_ISREG(os.stat(fd).st_mode)
+    with pytest.raises(TypeError):
+        os.fstat(at("a"))
     os.close(fd)
     assert code(os.read, fd, 1) == "EBADF" and code(os.close, fd) == "EBADF"
     with os.fdopen(os.open(at("a", "pids.max"), os.O_WRONLY), "w") as file:

@@ -60,6 +60,18 @@ def test_the_page_has_the_engines_state_at_every_moment(seed, tmp_path):
         assert any(re.fullmatch("ok\n[0-9]+", answer) for answer in history.answers)
 
 
+def test_a_number_that_stays_is_no_step():
+    """Of a command the number of its steps comes first."""
+    with Hierarchy() as h:
+        history = History(h)
+        for number in (b"1", b"100000", b"max"):
+            history.line(b"mkdir /a%s" % number)
+            history.line(b"write /a%s pids.max %s" % (number, number))
+            before = json.loads(data(history))["steps"]
+            history.line(b"write /a%s pids.max %s" % (number, number))
+            assert json.loads(data(history))["steps"] == [*before, 0]
+
+
 def test_every_command_is_audited():
     for seed in range(15):
         with Hierarchy() as h:
