@@ -2,8 +2,7 @@
 #include <stdarg.h>
 #include <stdio.h>
 
-/* It may wait for who reads standard error. Nobody calls it with the engine's lock but for a trace
-   that is too long. */
+/* It may wait for who reads standard error. Nobody calls it with the engine's lock. */
 void say(const char *format, ...)
 {
 	/* Standard error has no buffer: a sentence may come in three writes. */

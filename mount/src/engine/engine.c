@@ -25,8 +25,8 @@ static pthread_mutex_t lock = PTHREAD_MUTEX_INITIALIZER;
 static mk_handle engine;
 static struct trace_file *trace, *answers;
 /* what follows is used with the lock: so is each text that a call returns, which lasts until the
-   next call. `told_long`: the warning that cgreplay refuses the trace was printed. */
-static bool has_history, told_long;
+   next call. */
+static bool has_history;
 /* Of each thread: for WANTS_LOCK alone. */
 static _Thread_local bool holds_lock;
 static uint64_t number = 1; /* of the next line that is kept */
@@ -194,17 +194,13 @@ static bool step_back(enum effect effect)
 		effect_since(before) == (effect == UNDONE ? RECORDED : UNDONE);
 }
 
-/* Prints a warning, once, if the trace is longer than cgreplay reads, and marks the place in the trace by a comment. */
+/* A warning, once, if the trace is longer than cgreplay reads, and a comment at that place in the trace. */
 static void tell_long(void)
 {
 	static const char mark[] = "# This trace is longer than 16,777,216 bytes: use cgshell, not cgreplay.\n";
 	/* It may fail: then the trace lacks a comment and no line. */
-	if (told_long || trace->fd < 0 || trace->size <= TRACE_BYTES)
-		return;
-	told_long = true;
-	say("%s is longer than 16,777,216 bytes, which cgreplay refuses: replay it by cgshell < %s", trace->name,
-		trace->name);
-	trace_file_add(trace, mark, sizeof mark - 1);
+	if (trace->fd >= 0 && trace->size > TRACE_BYTES && trace_file_tell_long(trace))
+		trace_file_add(trace, mark, sizeof mark - 1);
 }
 
 /* Keeps the first `*size` bytes of `line` behind a comment that says when, since the engine's start. `*size` is then that

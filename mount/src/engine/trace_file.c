@@ -3,6 +3,7 @@
 #include <errno.h>
 #include <fcntl.h>
 #include <string.h>
+#include <time.h>
 #include <unistd.h>
 
 /* It never waits: a FIFO without a reader is refused and not opened. It is opened without O_CREAT
@@ -111,10 +112,37 @@ void trace_file_take_back(struct trace_file *k, size_t size)
 		cut_rest(k);
 }
 
+/* It reads the name alone, which stays as it is. */
+static void *tell_long(void *of)
+{
+	const char *name = ((const struct trace_file *)of)->name;
+	say("%s is longer than 16,777,216 bytes, which cgreplay refuses: replay it by cgshell < %s", name, name);
+	return NULL;
+}
+
+bool trace_file_tell_long(struct trace_file *k)
+{
+	if (k->was_told)
+		return false;
+	k->was_told = pthread_create(&k->teller, NULL, tell_long, k) == 0;
+	return k->was_told;
+}
+
+/* The process is about to end, and with it a thread that still waits. */
+static void wait_for_teller(struct trace_file *k)
+{
+	struct timespec end;
+	clock_gettime(CLOCK_REALTIME, &end); /* cannot fail: there is such a clock */
+	end.tv_sec++;
+	if (k->was_told)
+		pthread_timedjoin_np(k->teller, NULL, &end);
+}
+
 void trace_file_close(struct trace_file *k)
 {
 	if (k->fd < 0)
 		return;
+	wait_for_teller(k);
 	if (k->has_rest)
 		cut_rest(k);
 	close(k->fd);

@@ -2,6 +2,7 @@
 #ifndef TRACE_FILE_H
 #define TRACE_FILE_H
 
+#include <pthread.h>
 #include <stdbool.h>
 #include <stddef.h>
 #include <sys/stat.h>
@@ -17,6 +18,8 @@ struct trace_file {
 	int broken; /* of another file, the errno after which it ends within a text */
 	/* The text of the command line. */
 	const char *name;
+	bool was_told; /* that it is too long for cgreplay: `teller` says so, or has said it */
+	pthread_t teller;
 };
 
 /* Opens without changing the content. A regular file (made with mode 0600) or a character device; false after an error
@@ -31,6 +34,10 @@ void trace_file_abandon(struct trace_file *file);
 int trace_file_add(struct trace_file *file, const char *bytes, size_t size);
 /* Removes the newest text again. */
 void trace_file_take_back(struct trace_file *file, size_t size);
+/* Says, once, that it is too long for cgreplay, in a thread of its own: standard error may be a pipe that nobody reads, and the caller
+   has the engine's lock. False if that was said before, or if there is no thread for it. */
+bool trace_file_tell_long(struct trace_file *file);
+/* A sentence that nobody has read a second later is lost. */
 void trace_file_close(struct trace_file *file);
 
 #endif

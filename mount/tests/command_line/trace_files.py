@@ -1,8 +1,10 @@
 """The files that a mount keeps, --trace and --answers: which may be given, and what happens when they cannot grow."""
+import fcntl
 import os
 import pty
 import re
 import resource
+import shutil
 import socket
 import stat
 import subprocess
@@ -12,8 +14,8 @@ import time
 import tty
 
 sys.path.insert(0, os.path.dirname(os.path.dirname(os.path.realpath(__file__))))
-from support import CGREPLAY, CGSHELL, PATIENCE, PROGRAM, Mount, error_of, finish, read, same, step, until
-from support import write
+from support import CGREPLAY, CGSHELL, PATIENCE, PROGRAM, Beside, Mount, error_of, finish, read, same, status_within
+from support import step, until, write
 
 ME = os.path.realpath(__file__)
 TRACE_MAX = 16777216
@@ -341,15 +343,15 @@ def long_trace():
     for _ in range(20):
         os.pread(fd, 1, 0)
     step("the trace is longer", os.path.getsize(m.trace) > TRACE_MAX)
-    same("that is said once", m.words().count("\n"), 1)
+    step("that is said", until(lambda: m.words().endswith("\n")))
     said = "makhloeum: %s is longer than 16,777,216 bytes, which cgreplay refuses: replay it by cgshell < %s\n"
-    same("with the program that takes it", m.words(), said % (m.trace, m.trace))
     mark = "# This trace is longer than 16,777,216 bytes: use cgshell, not cgreplay.\n"
     same("and marked in the trace", open(m.trace).read().count(mark), 1)
     os.close(fd)
     os.chdir("/")
     step("it can be unmounted", m.unmounted())
     same("the process ends", m.ended(), 0)
+    same("it was said once, with the program that takes it", m.words(), said % (m.trace, m.trace))
     with open(m.trace) as trace:
         same("cgreplay refuses it", subprocess.run(CGREPLAY, stdin=trace, stdout=-3, stderr=-3).returncode, 1)
     if not os.path.exists(CGSHELL):
@@ -362,9 +364,48 @@ def long_trace():
         )
 
 
+def beyond(trace):
+    """In a run: sends lines until the trace is too long for cgreplay, then looks whether others still read the hierarchy."""
+    os.makedirs("/sys/fs/cgroup" + 15 * ("/" + 240 * "d"))
+    os.chdir("/sys/fs/cgroup" + 15 * ("/" + 240 * "d"))
+    fd = os.open("pids.max", os.O_RDONLY)
+    send = lambda: os.pread(fd, 1, 0)
+    while os.path.getsize(trace) <= TRACE_MAX and Beside(send).result():
+        pass
+    print(Beside(subprocess.getoutput, "cat /sys/fs/cgroup/cgroup.controllers").result(), flush=True)
+    input()
+    for _ in range(20):
+        send()
+
+
+def nobody_listens():
+    """The warning about a long trace waits for who reads standard error, and nobody else waits for it."""
+    home = tempfile.mkdtemp()
+    trace = os.path.join(home, "trace")
+    r, w = os.pipe()
+    filler = fcntl.fcntl(w, fcntl.F_SETPIPE_SZ, 4096) * b"x"
+    os.write(w, filler)
+    words = [PROGRAM, "run", "--trace", trace, sys.executable, ME, "beyond", trace]
+    p = subprocess.Popen(words, stdin=subprocess.PIPE, stdout=subprocess.PIPE, stderr=w, text=True)
+    os.close(w)
+    same("while standard error is full, another process reads", Beside(p.stdout.readline).result(), "pids\n")
+    step("the trace is longer", os.path.getsize(trace) > TRACE_MAX)
+    said = b""
+    while len(said) < len(filler) or not said.endswith(b"\n"):
+        said += Beside(os.read, r, 4096).result() or b"nothing\n"
+    p.communicate("\n")
+    same("the status of the run", status_within(p), 0)
+    said += os.read(r, 4096)
+    same("it is said once", (said.count(b"\n"), said.count(b"cgshell < %s" % trace.encode())), (1, 1))
+    shutil.rmtree(home)
+
+
 if sys.argv[1:] == ["small"]:
     small_device()
     finish()
+if sys.argv[1:2] == ["beyond"]:
+    beyond(sys.argv[2])
+    sys.exit()
 for test in (
     targets,
     modes,
@@ -375,6 +416,7 @@ for test in (
     undone_by_halves,
     terminal,
     long_trace,
+    nobody_listens,
 ):
     test()
 ran = subprocess.run(["unshare", "-Urm", sys.executable, ME, "small"], timeout=6 * PATIENCE)
