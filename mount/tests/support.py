@@ -195,7 +195,7 @@ def in_parallel(run, of, lanes=2):
         try:
             run(one)
         except Exception as e:
-            step("%s raises nothing" % getattr(one, "__name__", one), False, repr(e))
+            step("%s raises nothing" % (getattr(one, "__name__", one),), False, repr(e))
 
     with ThreadPoolExecutor(lanes) as pool:
         list(pool.map(guarded, of))

@@ -171,6 +171,7 @@ static int watch_over(const struct ears *ears, pid_t program)
 {
 	int status = 0;
 	bool orders = false;
+	const char *why = NULL;
 	struct pollfd from[] = { { .fd = ears->signals, .events = POLLIN }, { .fd = ears->link },
 		{ .fd = ears->helper, .events = POLLIN }, { .fd = ears->freezer, .events = POLLIN } };
 	for (;;) {
@@ -192,7 +193,7 @@ static int watch_over(const struct ears *ears, pid_t program)
 			break;
 		for (int i = 1; i < 3; i++)
 			if (from[i].revents & (POLLHUP | POLLERR)) {
-				say(i == 1 ? "the mount has ended" : "a process of the supervisor has ended");
+				why = i == 1 ? "the mount has ended" : "a process of the supervisor has ended";
 				kill(program, SIGKILL); /* it fails if the program has ended */
 				from[1].fd = from[2].fd = -1;
 				break;
@@ -201,6 +202,8 @@ static int watch_over(const struct ears *ears, pid_t program)
 	/* The helper after that: a call that waits for it is killed first, and never returns to the program. */
 	tracer_end_rest();
 	helper_end();
+	if (why) /* only now, since it may wait for who reads standard error */
+		say("%s", why);
 	return WIFEXITED(status) ? WEXITSTATUS(status) : KILLED + WTERMSIG(status);
 }
 
@@ -293,8 +296,7 @@ static void end_server(pid_t server, int end)
 		;
 }
 
-/* Whether there is a tracer, as inside another run. */
-/* Before this process enters a namespace, so /proc is the caller's. */
+/* Whether there is a tracer, as inside another run. Before this process enters a namespace, so /proc is the caller's. */
 static bool is_traced(void)
 {
 	char line[128];
@@ -318,8 +320,7 @@ static pid_t start_mount(int ends[2], int *freezer, pid_t *companion)
 		say("out of memory");
 		return -1;
 	}
-	/* The mount exists from here on, and answers once the server has begun. */
-	int connection = run_namespaces_mount();
+	int connection = run_namespaces_mount(); /* it exists from here on, and answers once the server has begun */
 	if (connection < 0)
 		return -1;
 	cleanup_fd int copy = run_namespaces_copy_mount();
@@ -377,8 +378,7 @@ int run_program(char **program, const struct wishes *asked)
 	look.marked = true;
 	look.no_threads = wishes.no_threads;
 	hide(true);
-	/* Before the server is forked, which inherits this. */
-	host_processes_are_reported();
+	host_processes_are_reported(); /* before the server is forked, which inherits this */
 	pid_t server = start_mount(ends, &freezer, &companion);
 	if (server < 0)
 		return REFUSED_HERE;

@@ -1,6 +1,7 @@
 """What a program under `makhloeum run` sees; this file is also that program (program.py inside NAME)."""
 import ctypes
 import errno
+import fcntl
 import os
 import pty
 import re
@@ -16,7 +17,8 @@ import time
 
 sys.path.insert(0, os.path.dirname(os.path.dirname(os.path.realpath(__file__))))
 from support import AT, CGREPLAY, PATIENCE, PROGRAM, Mount
-from support import error_of, finish, is_alive, libc, read, same, server_and_helper, step, until, write
+from support import error_of, finish, is_alive, libc, read, same, server_and_helper, status_within, step, until
+from support import write
 
 ME = os.path.realpath(__file__)
 
@@ -481,6 +483,22 @@ def ends():
     same("SIGTERM is passed on", p.wait(PATIENCE), 143)
 
 
+def unheard():
+    """The server or the helper dies while nobody reads standard error, a full pipe: the program is killed, and then that is said."""
+    for which, why in enumerate((b"makhloeum: the mount has ended\n", b"makhloeum: a process of the supervisor has ended\n")):
+        r, w = os.pipe()
+        filler = fcntl.fcntl(w, fcntl.F_SETPIPE_SZ, 4096) * b"x"
+        os.write(w, filler)
+        p = subprocess.Popen([PROGRAM, "run", "sh", "-c", "%s & %s; true" % (SLEEPS[2], SLEEPS[3])], stderr=w)
+        os.close(w)
+        until(lambda: running(SLEEPS[2]) and running(SLEEPS[3]))
+        os.kill(server_and_helper(p.pid)[which], signal.SIGKILL)
+        step("its processes go", until(lambda: not running(SLEEPS[2]) and not running(SLEEPS[3])))
+        with open(r, "rb") as pipe:
+            same("what is said after that", pipe.read(), filler + why)
+        same("the status", status_within(p), 137)
+
+
 def failures_without_helper(code):
     """What fails before the program is killed, and what the run says."""
     p = subprocess.Popen([PROGRAM, "run", sys.executable, "-c", code], stdout=-1, stderr=-1, text=True)
@@ -597,6 +615,6 @@ for test in INSIDE:
             "cgreplay gives the same answers (%d lines)" % sum(1 for _ in open(trace)),
             subprocess.run(CGREPLAY, stdin=lines, stdout=subprocess.PIPE).stdout == wanted.read(),
         )
-for test in (statuses, terminal, beside, ends, refused_here):
+for test in (statuses, terminal, beside, ends, unheard, refused_here):
     test()
 finish()
