@@ -15,6 +15,15 @@ DIRECTORY, FILE = 4, 8  # DT_DIR, DT_REG
 libc.opendir.restype = libc.readdir.restype = ctypes.c_void_p
 
 
+# The kernel's clock for the times of files, CLOCK_REALTIME_COARSE, which goes on by ticks: on a busy machine one may take long.
+TICKS = 5
+
+
+def until_after(time_of_file):
+    """Returns once a change has a later time than this one, in nanoseconds."""
+    step("the clock for files goes on", until(lambda: time.clock_gettime_ns(TICKS) > time_of_file))
+
+
 class Entry(ctypes.Structure):
     _fields_ = [
         ("number", ctypes.c_uint64),
@@ -196,8 +205,8 @@ def settings(at):
                 error_of(os.chown, path, 20, 21)
             before = all_of(os.stat(path))
             changed = os.stat(path).st_ctime_ns
-            until(lambda: time.time_ns() > changed + 20 * 10**6)  # the kernel's clock for files has ticks
-            begun = time.time_ns() - 20 * 10**6
+            until_after(changed)
+            begun = time.clock_gettime_ns(TICKS)
             call()
             st = os.stat(path)
             after = all_of(st)
@@ -245,8 +254,8 @@ def times_of(path):
 
 def timed(at):
     group, file = at + "/t", at + "/t/cgroup.procs"
-    time.sleep(0.05)  # so that the time is not that of the mount
-    before = time.time() - 0.02  # the kernel's clock for files has ticks
+    until_after(os.stat(at).st_ctime_ns)  # so that the time is not that of the mount
+    before = time.clock_gettime(TICKS)
     os.mkdir(group)
     made = [*times_of(group), *times_of(file), os.stat(group).st_ctime]
     step("the times of a new group", all(before <= t <= time.time() for t in made), (before, made))
@@ -265,7 +274,7 @@ def timed(at):
     for what, call in (("made", os.mkdir), ("removed", os.rmdir)):
         os.utime(group, (7, 9))
         changed = os.stat(group).st_ctime_ns
-        until(lambda: time.time_ns() > changed + 20 * 10**6)
+        until_after(changed)
         call(group + "/below")
         step(
             "a group is %s in it" % what,

@@ -118,8 +118,9 @@ def of_run(chooses_numbers):
     same("its status", status_within(p), 0)
     most = FORKS * (LEAST if chooses_numbers else LEAST_WITH_NEW_NUMBERS)
     for name, of in sizes.items():
-        # a thread may still begin in some rounds, and in others memory that was freed before is used again
-        grown = statistics.median(after - before for before, after in zip(of, of[1:]))
+        # A thread may still begin in some rounds: they don't move the median. In others a page comes and goes: it doesn't stay in the mean.
+        each = [after - before for before, after in zip(of, of[1:])]
+        grown = min(statistics.median(each), statistics.mean(each))
         print("  run: the %s grows by %.1f bytes for each of %d forks and opens" % (name, grown / FORKS, FORKS))
         step("the %s of a run does not grow" % name, 0 < of[0] and grown < most, of)
 

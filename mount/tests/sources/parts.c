@@ -1,10 +1,14 @@
 /* Parts of the mount that can be called alone: the texts of /proc (proc_status.c), reservations (reservations.c), what the supervisor
-   tells the server (supervisor_events.c), descriptors that are passed (descriptor_passing.c), and arrays (growing_array.c). */
+   tells (supervisor_events.c) and asks the server (link.c), descriptors that are passed (descriptor_passing.c), arrays (growing_array.c),
+   and an operation of several lines in a long trace (engine.c). */
 #include "channels/descriptor_passing.h"
+#include "channels/questions.h"
 #include "channels/supervisor_events.h"
 #include "common/growing_array.h"
 #include "common/proc_status.h"
+#include "engine/engine.h"
 #include "processes/reservations.h"
+#include "supervisor/link.h"
 #include <errno.h>
 #include <fcntl.h>
 #include <stdio.h>
@@ -149,6 +153,54 @@ static void news(void)
 	is("then none", !supervisor_events_take(&of, &who));
 }
 
+/* ---------------------------------------------------------------- questions */
+
+static const unsigned late_number = 0x9abcdef1; /* after billions of others */
+static int server; /* the test is the server: it replies before it is asked */
+static struct question q;
+
+static void replies(unsigned reservation)
+{
+	struct reply r = { .reservation = reservation };
+	if (send(server, &r, sizeof r, 0) != sizeof r)
+		exit(2);
+}
+
+static bool hears_question(enum what what)
+{
+	return recv(server, &q, sizeof q, MSG_DONTWAIT) > 0 && q.what == what;
+}
+
+/* Numbers that count on come whole. */
+static void questions(void)
+{
+	int ends[2];
+	unsigned number = 0;
+	bool frozen;
+	if (!link_make(ends))
+		exit(2);
+	server = ends[1];
+	link_use(ends[0], getpid());
+	replies(late_number);
+	is("a reservation", link_reserve(5, "/a", true, &number) == 0 && number == late_number);
+	is("who asks for it", hears_question(RESERVE) && q.reserve.parent == 5 && q.reserve.is_thread);
+	is("its group", q.names_group && strcmp(q.group, "/a") == 0);
+	replies(0);
+	is("a child", link_born(late_number, 7, &frozen) == 0);
+	is("its reservation", hears_question(BORN) && q.born.reservation == late_number && q.born.child == 7);
+	replies(0);
+	link_cancel(late_number);
+	is("a reservation is taken back", hears_question(CANCEL) && q.cancel.reservation == late_number);
+	replies(0);
+	is("a namespace is prepared", link_prepare(late_number, 5, NULL) == 0);
+	is("for this call", hears_question(PREPARE) && q.prepare.call == late_number && !q.names_group);
+	replies(0);
+	link_namespace(late_number - 1, late_number);
+	is("it is made", hears_question(NAMESPACE) && q.made.space == late_number - 1 && q.made.call == late_number);
+	close(ends[0]);
+	close(ends[1]);
+}
+
 /* ---------------------------------------------------------------- descriptors */
 
 static int lowest_free(void)
@@ -218,13 +270,43 @@ static void arrays(void)
 	free(all);
 }
 
+/* ---------------------------------------------------------------- a long trace */
+
+/* What a failed operation has kept goes, also behind the bytes that 32 bits count. */
+static void long_trace(void)
+{
+	char name[256];
+	const off_t before = 5LL << 30;
+	struct trace_file trace, answers;
+	struct stat st;
+	size_t depth;
+	snprintf(name, sizeof name, "%s/long-trace", getenv("TMPDIR") ? getenv("TMPDIR") : "/tmp");
+	if (!trace_file_open(&trace, name) || !trace_file_open(&answers, NULL) || ftruncate(trace.fd, before))
+		exit(2);
+	trace.size = before;
+	trace.was_told = true; /* that it is long */
+	is("an engine", engine_start(&trace, &answers, true));
+	engine_lock();
+	is("a group, alone", engine_begin() == 0 && engine_line("mkdir /a") == 0 && engine_finish(0) == 0);
+	depth = engine_depth();
+	const off_t kept = trace.size;
+	is("an operation that fails", engine_begin() == 0 && engine_line("mkdir /b") == 0 && engine_finish(-EAGAIN) == -EAGAIN);
+	is("it is undone", engine_depth() == depth && engine_has_group("/b") == -ENOENT && engine_has_group("/a") == 0);
+	is("and its lines are gone", trace.size == kept && fstat(trace.fd, &st) == 0 && st.st_size == kept);
+	is("the next line is kept", engine_line("mkdir /b") == 0 && trace.size > kept);
+	engine_unlock();
+	unlink(name);
+}
+
 int main(void)
 {
 	texts();
 	reservations();
 	news();
+	questions();
 	descriptors();
 	arrays();
+	long_trace();
 	printf("  %d steps, %d failed\n", steps, wrong);
 	return wrong != 0;
 }
