@@ -463,6 +463,25 @@ def inside_zombies():
     os.waitpid(dead.pop(), 0)
 
 
+def inside_domains():
+    """Processes may enter the groups below one with only zombies. Without memory to tell a zombie the move fails by that."""
+    write(AT + "/cgroup.subtree_control", b"+pids +cpu")
+    os.makedirs(AT + "/a/b")
+    write(AT + "/a/cgroup.subtree_control", b"+pids +cpu")
+    pid = os.fork()
+    if pid == 0:
+        write(AT + "/a/cgroup.procs", b"0")
+        os._exit(0)
+    os.waitid(os.P_PID, pid, os.WEXITED | os.WNOWAIT)
+    each(
+        "a move below a zombie",
+        lambda: write(AT + "/a/b/cgroup.procs", b"0"),
+        lambda: read("/proc/self/cgroup"),
+        lambda: write(AT + "/cgroup.procs", b"0"),
+    )
+    os.waitpid(pid, 0)
+
+
 COUNTS = """
 import os, time
 while True:
@@ -531,7 +550,16 @@ def inside_freezer():
 
 
 OF_MOUNT = (numbers, adopted)
-INSIDE = (inside_freezer, inside_forks, inside_spaces, inside_kills, inside_texts, inside_zombies)
+INSIDE = (
+    inside_freezer,
+    inside_forks,
+    inside_spaces,
+    inside_kills,
+    inside_texts,
+    inside_zombies,
+    inside_domains,
+)
+OPTIONS = {inside_domains: ("--keep", "cpu")}
 if sys.argv[1:2] == ["inside"]:
     {t.__name__: t for t in OF_MOUNT + INSIDE}[sys.argv[2]]()
     finish()
@@ -556,5 +584,5 @@ def part(name, *start, **words):
 
 in_parallel(part, [t.__name__ for t in OF_MOUNT])
 # not beside a mount, which would live on in their namespaces
-in_parallel(lambda name: part(name, PROGRAM, "run", LD_PRELOAD=LIBRARY), [t.__name__ for t in INSIDE])
+in_parallel(lambda t: part(t.__name__, PROGRAM, "run", *OPTIONS.get(t, ()), LD_PRELOAD=LIBRARY), INSIDE)
 finish()

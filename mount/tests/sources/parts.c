@@ -1,6 +1,7 @@
 /* Parts of the mount that can be called alone: the texts of /proc (proc_status.c), reservations (reservations.c), what the supervisor
-   tells (supervisor_events.c) and asks the server (link.c), descriptors that are passed (descriptor_passing.c), arrays (growing_array.c),
-   and an operation of several lines in a long trace (engine.c). */
+   tells (supervisor_events.c) and asks the server (link.c), what is allowed in advance (advance.c), descriptors that are passed
+   (descriptor_passing.c), arrays (growing_array.c), and an operation of several lines in a long trace (engine.c). */
+#include "channels/advance.h"
 #include "channels/descriptor_passing.h"
 #include "channels/questions.h"
 #include "channels/supervisor_events.h"
@@ -201,6 +202,25 @@ static void questions(void)
 	close(ends[1]);
 }
 
+/* ---------------------------------------------------------------- in advance */
+
+/* What is allowed for a child is no thread's, and the other way round, whatever number the process has. */
+static void advance(void)
+{
+	bool apart = true, there = true;
+	is("memory for what is allowed in advance", advance_begin());
+	for (pid_t process = 1; process <= LONG; process++) {
+		advance_give(process, false, 5);
+		apart &= advance_take(process, true) == 0;
+		there &= advance_take(process, false) == 5;
+		advance_give(process, true, 6);
+		apart &= advance_take(process, false) == 0;
+		there &= advance_take(process, true) == 6;
+	}
+	is("a child's is no thread's", apart);
+	is("each is there, once", there && advance_take_any() == 0);
+}
+
 /* ---------------------------------------------------------------- descriptors */
 
 static int lowest_free(void)
@@ -304,6 +324,7 @@ int main(void)
 	reservations();
 	news();
 	questions();
+	advance();
 	descriptors();
 	arrays();
 	long_trace();
