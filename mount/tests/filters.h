@@ -12,6 +12,14 @@
 #include <sys/wait.h>
 #include <unistd.h>
 
+static inline void use_filter(struct sock_filter *code, unsigned short size)
+{
+	struct sock_fprog program = { size, code };
+	prctl(PR_SET_NO_NEW_PRIVS, 1, 0, 0, 0);
+	if (syscall(SYS_seccomp, SECCOMP_SET_MODE_FILTER, 0, &program))
+		_exit(3);
+}
+
 /* From now on a filter gives this answer to a call, and allows all others. */
 static inline void filter(long call, unsigned answer)
 {
@@ -21,10 +29,21 @@ static inline void filter(long call, unsigned answer)
 		BPF_STMT(BPF_RET | BPF_K, answer),
 		BPF_STMT(BPF_RET | BPF_K, SECCOMP_RET_ALLOW),
 	};
-	struct sock_fprog program = { sizeof code / sizeof *code, code };
-	prctl(PR_SET_NO_NEW_PRIVS, 1, 0, 0, 0);
-	if (syscall(SYS_seccomp, SECCOMP_SET_MODE_FILTER, 0, &program))
-		_exit(3);
+	use_filter(code, sizeof code / sizeof *code);
+}
+
+/* The same for a call whose second argument has this lower half. */
+static inline void filter_second(long call, unsigned second, unsigned answer)
+{
+	struct sock_filter code[] = {
+		BPF_STMT(BPF_LD | BPF_W | BPF_ABS, offsetof(struct seccomp_data, nr)),
+		BPF_JUMP(BPF_JMP | BPF_JEQ | BPF_K, (unsigned)call, 0, 3),
+		BPF_STMT(BPF_LD | BPF_W | BPF_ABS, offsetof(struct seccomp_data, args[1])),
+		BPF_JUMP(BPF_JMP | BPF_JEQ | BPF_K, second, 0, 1),
+		BPF_STMT(BPF_RET | BPF_K, answer),
+		BPF_STMT(BPF_RET | BPF_K, SECCOMP_RET_ALLOW),
+	};
+	use_filter(code, sizeof code / sizeof *code);
 }
 
 struct tried {

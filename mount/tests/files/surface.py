@@ -162,6 +162,17 @@ def control():
     m.end()
 
 
+def without_history():
+    """Without --control the directory is not listed, and has the files that send a fork and an exit."""
+    m = Mount(control=False)
+    at = m.path(".makhloeum")
+    step("it is not listed", ".makhloeum" not in os.listdir(m.at))
+    same("its files without a history", modes(at), CONTROL)
+    for name in HISTORY:
+        same("its %s by name" % name, error_of(os.stat, at + "/" + name), "ok" if name in CONTROL else "ENOENT")
+    m.end()
+
+
 def names():
     """Which bytes and words a name may have: what is made is listed, found and removed by the same bytes."""
     m = Mount()
@@ -599,7 +610,7 @@ if sys.argv[1:] == ["kernel"]:
             as_in_a_kernel("the kernel", group)
             no_empty_line("the kernel", group)
     finish()
-for test in (every_file, control, names, most, of_system, made, under_run, tables, over, other):
+for test in (every_file, control, without_history, names, most, of_system, made, under_run, tables, over, other):
     test()
 ran = subprocess.run([PROGRAM, "run", "--root", sys.executable, ME, "longest"], timeout=2 * PATIENCE)
 same("the longest path: its status", ran.returncode, 0)

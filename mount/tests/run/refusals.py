@@ -4,6 +4,7 @@ import errno
 import os
 import re
 import signal
+import socket
 import subprocess
 import sys
 import tempfile
@@ -56,6 +57,13 @@ def refused_to_run(one):
     else:
         wanted = (2, "", "makhloeum: this machine does not allow %s%s\n" % (what, why))
     same("run without %s, %s" % (call, errno.errorcode[number]), got, wanted)
+
+
+def refused_stream(number):
+    """The socket by which the program begins is another kind than those that are made before."""
+    got = ran(REFUSING, "socketpair:%d" % (socket.SOCK_STREAM | socket.SOCK_CLOEXEC), str(number), PROGRAM, *SHOWS)
+    wanted = (2, "", "makhloeum: this machine does not allow a socket: %s\n" % os.strerror(number))
+    same("run without a pair of streams, %s" % errno.errorcode[number], got, wanted)
 
 
 # As the superuser of a namespace, who needs no fusermount3: a filter keeps that from gaining its privileges.
@@ -118,6 +126,8 @@ def blocked():
 
 
 every = sorted([*OTHERS, *NEEDED, *UNNEEDED, "clone3"])
+for each in ERRORS:
+    refused_stream(each)
 in_parallel(refused_to_run, [(call, number) for call in every for number in ERRORS], lanes=4)
 # Nothing of a mount is left to be seen without these: the calls by which it is mounted and unmounted here. Without getpid the C library
 # can't cancel the threads of libfuse, and the server may wait for one.

@@ -1,5 +1,5 @@
 /* refusing CALL ERRNO PROGRAM WORDS..: executes a program under a filter that refuses one system call with this errno, as a sandbox does.
-   CALL is its name or its number. */
+   CALL is its name; behind it, after a colon, may stand the second argument that alone is refused. */
 #include "../filters.h"
 #include <limits.h>
 #include <stdlib.h>
@@ -76,9 +76,15 @@ int main(int argc, char **argv)
 {
 	if (argc < 4)
 		return 2;
+	const char *second = strchr(argv[1], ':');
+	size_t n = second ? (size_t)(second - argv[1]) : strlen(argv[1]);
+	unsigned answer = SECCOMP_RET_ERRNO | (unsigned)strtoul(argv[2], NULL, 10);
 	for (size_t i = 0; i < sizeof calls / sizeof *calls; i++)
-		if (strcmp(argv[1], calls[i].name) == 0) {
-			filter(calls[i].number, SECCOMP_RET_ERRNO | (unsigned)strtoul(argv[2], NULL, 10));
+		if (strlen(calls[i].name) == n && strncmp(argv[1], calls[i].name, n) == 0) {
+			if (second)
+				filter_second(calls[i].number, (unsigned)strtoul(second + 1, NULL, 10), answer);
+			else
+				filter(calls[i].number, answer);
 			execvp(argv[3], argv + 3);
 		}
 	return 3;
