@@ -47,17 +47,14 @@ enum { REFUSED_HERE = 2, NOT_EXECUTABLE = 126, NOT_FOUND = 127, KILLED = 128, PA
 
 /* ---------------------------------------------------------------- what the program inherits */
 
-/* The program starts with the signals as this process got them. Here none is blocked at first, and a child that has
-   ended is waited for. */
+/* The program starts with the signals as this process got them. Here a child that has ended is waited for. */
 static struct signal_action found[SIGNALS + 1];
 static sigset_t found_blocked;
 
 static void keep_signals(void)
 {
-	sigset_t none;
-	/* none of these can fail: the signals exist */
-	sigemptyset(&none);
-	sigprocmask(SIG_SETMASK, &none, &found_blocked);
+	/* None of these can fail: the signals exist. What the caller blocks stays blocked: it may wait already, for the program. */
+	sigprocmask(SIG_SETMASK, NULL, &found_blocked);
 	for (int each = 1; each <= SIGNALS; each++)
 		(void)signal_action(each, NULL, &found[each]);
 	signal(SIGCHLD, SIG_DFL);

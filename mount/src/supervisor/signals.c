@@ -45,18 +45,25 @@ bool signals_is_stop(int signal)
 
 int signals_receive(void)
 {
-	sigset_t held;
+	sigset_t held, waiting_already;
 	/* none of these can fail: the signals exist */
 	sigemptyset(&held);
 	sigaddset(&held, SIGCHLD);
 	for (int signal = 1; signal < SIGSYS; signal++)
 		if (is_for_program(signal))
 			sigaddset(&held, signal);
+	sigprocmask(SIG_BLOCK, &held, NULL);
+	/* those that the caller had blocked and got: the next call drops them */
+	if (sigpending(&waiting_already))
+		sigemptyset(&waiting_already);
 	/* A blocked signal is queued even if its action is to be ignored, so the descriptor receives
 	   those that are held. All others are dropped. */
 	own_processes_ignore_signals();
 	sigprocmask(SIG_SETMASK, &held, NULL);
 	received = signalfd(-1, &held, SFD_CLOEXEC | SFD_NONBLOCK);
+	for (int signal = 1; signal < SIGSYS; signal++)
+		if (is_for_program(signal) && sigismember(&waiting_already, signal))
+			kill(getpid(), signal); /* it cannot fail: this process may send itself any */
 	return received;
 }
 

@@ -143,14 +143,14 @@ def zombies():
     same("one moves nowhere", error_of(write, AT + "/a/cgroup.procs", b"%d\n" % child), "ok")
     same("and does not hold its group", error_of(os.rmdir, AT + "/b"), "ok")
     os.waitpid(child, 0)
-    os.mkdir(AT + "/c")
-    three = [zombie_in("/c") for _ in range(3)]
-    os.waitpid(three[0], 0)
-    same("of three, those that nobody waited for", (processes("/c"), count("/c")), ([], 2))
-    os.waitpid(three[2], 0)
-    same("then the one between them", (processes("/c"), count("/c")), ([], 1))
-    os.waitpid(three[1], 0)
-    same("then none", count("/c"), 0)
+    of_three = ["/c%d" % i for i in range(3)]
+    for group in of_three:
+        os.mkdir(AT + group)
+    three = [zombie_in(group) for group in of_three]
+    for what, waited, left in (("the first", 0, [0, 1, 1]), ("the last", 2, [0, 1, 0]), ("the other", 1, [0, 0, 0])):
+        os.waitpid(three[waited], 0)
+        same("of three, %s was waited for" % what, [count(group) for group in of_three], left)
+        same("none is listed", [processes(group) for group in of_three], [[], [], []])
     os.mkdir(AT + "/d")
     os.mkdir(AT + "/de")
     alive = subprocess.Popen(["sleep", "600"], preexec_fn=lambda: into("/d"))

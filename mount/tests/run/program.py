@@ -485,7 +485,9 @@ def ends():
 
 def unheard():
     """The server or the helper dies while nobody reads standard error, a full pipe: the program is killed, and then that is said."""
-    for which, why in enumerate((b"makhloeum: the mount has ended\n", b"makhloeum: a process of the supervisor has ended\n")):
+    for which, why in enumerate(
+        (b"makhloeum: the mount has ended\n", b"makhloeum: a process of the supervisor has ended\n")
+    ):
         r, w = os.pipe()
         filler = fcntl.fcntl(w, fcntl.F_SETPIPE_SZ, 4096) * b"x"
         os.write(w, filler)

@@ -380,7 +380,19 @@ def timers():
     same("a timer of its caller", status_within(p), 128 + signal.SIGALRM)
 
 
-tests = (group, manager, every, alone, asynchronous, outside, often, merged, mounts, faults, deaf, timers)
+def pending():
+    """A signal that a caller blocks and has got already when it becomes makhloeum: the program, which lets it through, gets it."""
+    block = "signal.pthread_sigmask(signal.SIG_%s, [signal.SIGTERM])"
+    caller = "import os, signal, sys; %s; os.kill(os.getpid(), signal.SIGTERM); os.execv(sys.argv[1], sys.argv[1:])"
+    program = "import os, signal; os.write(1, b'it runs'); %s; signal.pause()" % (block % "UNBLOCK")
+    words = [sys.executable, "-c", caller % (block % "BLOCK"), PROGRAM, "run", sys.executable, "-c", program]
+    p = subprocess.Popen(words, stdout=subprocess.PIPE, start_new_session=True)
+    same("what the program says", Beside(p.stdout.read).result(), b"it runs")
+    same("the program's end", status_within(p), 128 + signal.SIGTERM)
+    p.stdout.close()
+
+
+tests = (group, manager, every, alone, asynchronous, outside, often, merged, mounts, faults, deaf, timers, pending)
 for test in [t for t in tests if t.__name__ in sys.argv[1:] or not sys.argv[1:]]:
     test()
 finish()

@@ -310,7 +310,8 @@ static void long_trace(void)
 	is("a group, alone", engine_begin() == 0 && engine_line("mkdir /a") == 0 && engine_finish(0) == 0);
 	depth = engine_depth();
 	const off_t kept = trace.size;
-	is("an operation that fails", engine_begin() == 0 && engine_line("mkdir /b") == 0 && engine_finish(-EAGAIN) == -EAGAIN);
+	is("an operation that fails",
+		engine_begin() == 0 && engine_line("mkdir /b") == 0 && engine_finish(-EAGAIN) == -EAGAIN);
 	is("it is undone", engine_depth() == depth && engine_has_group("/b") == -ENOENT && engine_has_group("/a") == 0);
 	is("and its lines are gone", trace.size == kept && fstat(trace.fd, &st) == 0 && st.st_size == kept);
 	is("the next line is kept", engine_line("mkdir /b") == 0 && trace.size > kept);
