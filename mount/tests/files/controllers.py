@@ -143,6 +143,27 @@ def with_a_process():
     return m
 
 
+def lost_between():
+    """Of three open files of a group the one between loses its controller and is closed: the others still hear of changes."""
+    m = Mount("--keep", "memory")
+    write(m.path("cgroup.subtree_control"), b"+pids")
+    os.mkdir(m.path("g"))
+    write(m.control("fork"), b"1 2")
+    first, lost, last = (os.open(m.path("g", f), os.O_RDONLY) for f in ("cgroup.events", "pids.current", "cgroup.stat"))
+    write(m.path("cgroup.subtree_control"), b"-pids")
+    same("it is lost", error_of(os.pread, lost, 100, 0), "ENODEV")
+    os.close(lost)
+    poller = select.poll()
+    poller.register(first, select.POLLPRI)
+    for where in ("g", "", "g", ""):  # the kernel may say a little later that a file is closed
+        os.pread(first, 100, 0)
+        write(m.path(where, "cgroup.procs"), b"2")
+        same("a change is heard, to /%s" % where, [fd for fd, _ in poller.poll(1000 * PATIENCE)], [first])
+    os.close(first)
+    os.close(last)
+    m.end()
+
+
 def internal():
     m = with_a_process()
     same("memory in a group with a process", change(m, "a", "+memory"), "EBUSY")
@@ -439,6 +460,7 @@ for test in (
     enabling,
     order,
     lost_pids,
+    lost_between,
     internal,
     threaded,
     again,
