@@ -1,6 +1,7 @@
 """What a program can hold back or cover stops nobody else of its run, and files of the user keep their content. This file is
 also the program (blocking.py inside NAME)."""
 import ast
+import contextlib
 import ctypes
 import glob
 import os
@@ -341,14 +342,22 @@ def opening():
     step("others still run", forks())
 
 
+def waits_of(statuses):
+    """How often each of these threads has waited so far. One that has ended meanwhile is left out."""
+    found = []
+    for path in statuses:
+        with contextlib.suppress(FileNotFoundError, ProcessLookupError), open(path) as status:
+            found.append(int(re.search(r"^voluntary_ctxt_switches:\s*(\d+)", status.read(), re.M)[1]))
+    return found
+
+
 def resting():
     """An open waits for a second, and before it there was none: others are answered meanwhile. Afterwards each call still wakes one
     thread; a thread that looks every millisecond wakes too."""
     helper = max(own_of(tracer()), key=lambda pid: len(os.listdir("/proc/%d/task" % pid)))
 
     def wakes():
-        tasks = glob.glob("/proc/%d/task/*/status" % helper)
-        return sum(int(re.search(r"^voluntary_ctxt_switches:\s*(\d+)", open(t).read(), re.M)[1]) for t in tasks)
+        return sum(waits_of(glob.glob("/proc/%d/task/*/status" % helper)))
 
     def each():
         """How often the helper wakes for an open."""
@@ -682,8 +691,7 @@ def idle():
         """How often each thread has waited so far."""
         status = glob.glob("/proc/%d/task/*/status" % p.pid)
         status += [path for pid in own_of(p.pid) for path in glob.glob("/proc/%d/task/*/status" % pid)]
-        found = (re.search(r"^voluntary_ctxt_switches:\s+(\d+)$", open(path).read(), re.M) for path in status)
-        return [int(times[1]) for times in found]
+        return waits_of(status)
 
     def rest():
         before = wakes()
