@@ -935,6 +935,8 @@ def configured(at=AT):
     same("nor mounts", [called(FSMOUNT, n, 0, 0) for n in (0, 999)], ["EINVAL", "EBADF"])
     got = [configure(fd, CREATE), configure(fd, CREATE), configure(fd, SET_FLAG, b"rw"), configure(fd, RECONFIGURE)]
     same("made once", got, [0, "EBUSY", "EBUSY", "EBUSY"])
+    got = [configure(fd, SET_BINARY, b"x", b"yy", size) for size in (2, 0, -1, (1 << 20) + 1)]
+    same("the size of a value is checked before that", got, ["EBUSY", "EINVAL", "EINVAL", "EINVAL"])
     top = called(FSMOUNT, fd, 1, 0x2 | 0x10)  # MOUNT_ATTR_NOSUID, MOUNT_ATTR_NOATIME
     same("mounted, and closed at an exec", fcntl.fcntl(top, fcntl.F_GETFD), 1)
     step("its root by the descriptor", os.stat("cgroup.procs", dir_fd=top))
