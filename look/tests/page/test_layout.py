@@ -150,15 +150,17 @@ def test_a_list_that_is_cut_says_how_many_there_are(sized):
     )
     b = sized("many", "mkdir /b\nfork 1 7\nwrite /b cgroup.procs 7\n" + many, WIDTHS[0])
     fits = "return [...document.querySelectorAll('#tree .row > span:last-child')].every((one) => one.scrollWidth <= one.clientWidth)"
-    pids = "return document.querySelectorAll('#tree .row')[1].querySelectorAll('.pid').length"
+    # at once, since the page may draw the row again between two scripts
+    row = "const last = [...document.querySelectorAll('#tree .row')][1].lastElementChild;"
+    row += "return [last.textContent, last.querySelectorAll('.pid').length]"
     shown_at = []
     for width in WIDTHS:
         b.size(width)
         assert b.until(lambda: b.run(fits)), width
-        shown_at.append(b.run(pids))
-        shown = row_of(b, "/a")[-1]
+        shown, pids = b.run(row)
+        shown_at.append(pids)
         cut = re.fullmatch(r"(.*?) \.\. (\d+) more|(40) in all", shown)
-        assert cut and (cut.group(3) or b.run(pids) + int(cut.group(2)) == 40), (width, shown)
+        assert cut and (cut.group(3) or pids + int(cut.group(2)) == 40), (width, shown)
         assert row_of(b, "/b")[-1] == "7"
     assert max(shown_at) > min(shown_at), "a wide column has more of them"
     assert b.texts("#list .row.now .said") == ["40 lines"]
