@@ -27,7 +27,7 @@ def run(one):
     kernel, (test, *names) = one
     env = dict(os.environ, LD_PRELOAD=LIBRARY, OLD_KERNEL=kernel)
     words = [sys.executable, os.path.join(FOLDER, test + ".py"), *names]
-    ran = subprocess.run(words, env=env, stdout=subprocess.PIPE, stderr=subprocess.STDOUT, timeout=12 * PATIENCE)
+    ran = subprocess.run(words, env=env, stdout=subprocess.PIPE, stderr=subprocess.STDOUT, timeout=20 * PATIENCE)
     same("%s on %s" % (test, kernel), ran.returncode, 0)
     if ran.returncode:
         print(ran.stdout.decode(errors="replace")[-2000:])
