@@ -382,13 +382,17 @@ def nobody_listens():
     """The warning about a long trace waits for who reads standard error, and nobody else waits for it."""
     home = tempfile.mkdtemp()
     trace = os.path.join(home, "trace")
+    open(trace, "w").close()
     r, w = os.pipe()
     filler = fcntl.fcntl(w, fcntl.F_SETPIPE_SZ, 4096) * b"x"
     os.write(w, filler)
     words = [PROGRAM, "run", "--trace", trace, sys.executable, ME, "beyond", trace]
     p = subprocess.Popen(words, stdin=subprocess.PIPE, stdout=subprocess.PIPE, stderr=w, text=True)
     os.close(w)
-    same("while standard error is full, another process reads", Beside(p.stdout.readline).result(), "pids\n")
+    line, size = Beside(p.stdout.readline), -1
+    while line.thread.is_alive() and size != (size := os.path.getsize(trace)):  # a busy machine takes long for so many lines
+        line.thread.join(PATIENCE)
+    same("while standard error is full, another process reads", line.got, ["pids\n"])
     step("the trace is longer", os.path.getsize(trace) > TRACE_MAX)
     said = b""
     while len(said) < len(filler) or not said.endswith(b"\n"):
