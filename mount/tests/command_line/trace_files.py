@@ -390,7 +390,9 @@ def nobody_listens():
     p = subprocess.Popen(words, stdin=subprocess.PIPE, stdout=subprocess.PIPE, stderr=w, text=True)
     os.close(w)
     line, size = Beside(p.stdout.readline), -1
-    while line.thread.is_alive() and size != (size := os.path.getsize(trace)):  # a busy machine takes long for so many lines
+    while line.thread.is_alive() and size != (
+        size := os.path.getsize(trace)
+    ):  # a busy machine takes long for so many lines
         line.thread.join(PATIENCE)
     same("while standard error is full, another process reads", line.got, ["pids\n"])
     step("the trace is longer", os.path.getsize(trace) > TRACE_MAX)
