@@ -21,6 +21,8 @@ GO_BLOCK = re.compile(r"^const \((.*?)^\)", re.M | re.S)
 IN_BLOCK = re.compile(r"^\t(\w+)(?: \w+)? += ([^=\n]+?)(?:\s*//.*)?$", re.M)
 PAGE_CONST = re.compile(r"\bconst ([^;]*);")
 ONE_OF_PAGE = re.compile(r"(?:^|, )(\w+) = ([\w .*+<|()-]+)(?=,|$)")
+# What holds several constants, and one of them there.
+BLOCKS = {".go": (GO_BLOCK, IN_BLOCK), ".mjs": (PAGE_CONST, ONE_OF_PAGE)}
 # Several constants of one line, by position.
 SEVERAL = {
     ".py": re.compile(r"^[ \t]*([A-Z][A-Z0-9_]*(?:, [A-Z][A-Z0-9_]*)+) = ([^#\n]+)$", re.M),
@@ -96,9 +98,9 @@ def constants(path, text):
     for found in re.finditer(CONSTANT[of], text, re.M) if of in CONSTANT else ():
         name, value = [one for one in found.groups() if one is not None]
         yield found.start(), name, value
-    for outer, inner in ((GO_BLOCK, IN_BLOCK), (PAGE_CONST, ONE_OF_PAGE)) if of in (".go", ".mjs") else ():
-        for block in outer.finditer(text):
-            yield from ((block.start(1) + one.start(1), one[1], one[2]) for one in inner.finditer(block[1]))
+    outer, inner = BLOCKS.get(of, (None, None))
+    for block in outer.finditer(text) if outer else ():
+        yield from ((block.start(1) + one.start(1), one[1], one[2]) for one in inner.finditer(block[1]))
     for found in SEVERAL[of].finditer(text) if of in SEVERAL else ():
         names, values = found[1].split(", "), found[2].split(", ")
         if len(names) == len(values):

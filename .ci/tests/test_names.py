@@ -53,6 +53,12 @@ class Constants(unittest.TestCase):
         texts = {"a": "A = B\n", "b": "B = C\n", "c": "C = 7\n"}
         self.assertEqual(self.owners(7, **texts), [("a", "A = B"), ("b", "B = C"), ("c", "C = 7")])
 
+    def test_each_constant_of_a_line_of_go_has_its_own_value(self):
+        """Also with a semicolon below, by which the page's lists of constants end."""
+        text = "const slots = 1024\n\tconst groups, processes = slots, 100_000\n\tfor i := 0; i < 9; i++ {\n\t}\n"
+        for value, said in ((1024, [(1, "slots = 1024"), (2, "groups = slots")]), (100_000, [(2, "processes = 100_000")])):
+            self.assertEqual([it[1:] for it in numbers.owners(value, {"a.go": text})], said)
+
     def test_what_is_not_known_is_no_number(self):
         self.assertEqual(self.owners(0, a="A = OTHER + 1\n"), [])
         self.assertEqual(self.owners(1024, a="A, B = call(X, 1024, Y), 3\n"), [])
