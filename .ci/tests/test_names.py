@@ -56,7 +56,10 @@ class Constants(unittest.TestCase):
     def test_each_constant_of_a_line_of_go_has_its_own_value(self):
         """Also with a semicolon below, by which the page's lists of constants end."""
         text = "const slots = 1024\n\tconst groups, processes = slots, 100_000\n\tfor i := 0; i < 9; i++ {\n\t}\n"
-        for value, said in ((1024, [(1, "slots = 1024"), (2, "groups = slots")]), (100_000, [(2, "processes = 100_000")])):
+        for value, said in (
+            (1024, [(1, "slots = 1024"), (2, "groups = slots")]),
+            (100_000, [(2, "processes = 100_000")]),
+        ):
             self.assertEqual([it[1:] for it in numbers.owners(value, {"a.go": text})], said)
 
     def test_what_is_not_known_is_no_number(self):
