@@ -1,5 +1,5 @@
 -- New attributes, of the node itself or below a child, as the node sees them.
-use Rattle.std.proofs.Common.{◌≡◌, ℕ, Bool, true, false, cond, List, [], ◌∷◌, get_or, refl, sym, ◌∙◌, subst, Ok, Some, None, IsSome}
+use Rattle.std.proofs.Common.{◌≡◌, ℕ, Bool, true, false, cond, List, [], ◌∷◌, get_or, sym, ◌∙◌, subst, Ok, Some, IsSome}
 use Rattle.std.proofs.Math.ListN.{set}
 use Rattle.std.specs.FinMap as fin
 use Rattle.std.specs.Ordering.{eq_by_cmp}

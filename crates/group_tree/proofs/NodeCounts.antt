@@ -1,5 +1,5 @@
 -- How many groups are below a node, kept along each change.
-use Rattle.std.proofs.Common.{◌≡◌, ◌≢◌, ℕ, ◌+◌, ◌-◌, ◌^◌, ◌%◌, ◌<◌, Bool, true, false, cond, List, length, refl, ap, sym, ◌∙◌, subst, arith, Ok, Err, Option, Some, None, IsSome, is_some}
+use Rattle.std.proofs.Common.{◌≡◌, ◌≢◌, ℕ, ◌+◌, ◌-◌, ◌^◌, ◌%◌, ◌<◌, Bool, true, false, cond, List, length, ap, sym, ◌∙◌, arith, Ok, Err, Option, Some, None, IsSome, is_some}
 use Rattle.std.proofs.Math.Nat.{mod-add-mod, add-mod_right}
 use Rattle.std.specs.FinMap as fin
 use Rattle.flat_model.specs.Path.{Name, Path}

@@ -10,7 +10,8 @@
 //! - A look-up descends once, in O(depth · log children) comparisons, most of them of numbers. Each group records how many
 //!   groups are below it, so `descendants` is a look-up.
 //! - `child_names` returns the names of a group's children in order. It allocates nothing.
-//! - The calls that end in `_at` do the same at the first n names of a path, and copy nothing.
+//! - The calls that end in `_at` do the same at the first n names of a path, and copy nothing. `specified.rt` has the calls that
+//!   no program of this repository makes.
 //! - A path may use another allocator than the tree. Attributes are passed and returned by value. The tree interprets none of
 //!   them, and tests no limit: two groups may have the same slot.
 //!
@@ -22,7 +23,6 @@
 #![tactic(auto)]
 
 mod attr;
-mod chain;
 mod child_names;
 mod copy;
 mod fault;
@@ -31,6 +31,7 @@ mod node;
 mod number;
 mod remove;
 mod set;
+mod specified;
 mod tree;
 
 pub use attr::{Attr, Limit, LimitFile, Limits};

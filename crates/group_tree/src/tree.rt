@@ -1,26 +1,25 @@
 //! The tree, seen as a finite map, and its public calls.
 
-ghost use Rattle.std.specs.Prelude.{◌≡◌, ◌<◌, ◌≤◌, ◌%◌, ◌^◌, true, length, take, None, MatchOption, IsOk, IfOk, IfSome, IsSome};
+ghost use Rattle.std.specs.Prelude.{◌≡◌, ◌<◌, ◌≤◌, ◌%◌, ◌^◌, true, length, take, None, MatchOption, IfOk, IfSome, IsSome};
 ghost use Rattle.std.specs.Option.{option_copied};
 ghost use Rattle.std.specs.FinMap as fin;
 ghost use Rattle.flat_model.specs.Path.{Path, at_or_below};
 ghost use Rattle.group_tree.specs.Flat.{CountsAsFlat};
 ghost use Rattle.group_tree.specs.ChildNames.{NamesChildren};
-ghost use Rattle.group_tree.specs.Groups.{IsClosed, Inserts, Sets, Removes, only_root, descendant_count, chain_of};
+ghost use Rattle.group_tree.specs.Groups.{IsClosed, Inserts, Sets, Removes, only_root, descendant_count};
 
 use crate::attr::Attr;
 use crate::child_names::ChildNames;
 use crate::fault::TreeFault;
 use crate::node::Node;
 use group_path::GroupPath;
-use smallvec::SmallVec;
 use std::alloc::{AllocError, Allocator};
 use std::marker::Model;
 
 /// A tree of groups, seen as a finite map from paths to attributes. It has the root and the parent of each group.
 #[derive(Drop)]
 pub struct GroupTree<A: Allocator> {
-    root: Node<A>,
+    pub(crate) root: Node<A>,
 }
 
 impl<A: Allocator> Model for GroupTree<A> {
@@ -60,20 +59,6 @@ impl<A: Allocator> GroupTree<A> {
         self.root.set(path.names(), attr)
     }
 
-    /// Sets the attributes of the group at the first `n` names of the path; false if there is no such group. Costs no more
-    /// than `find`.
-    pub fn set_at<B: Allocator + Clone>(
-        &mut self,
-        path: &GroupPath<B>,
-        n: usize,
-        attr: Attr,
-    ) -> bool
-        requires { n ≤ length path.now }
-        ensures { Sets self.old self.new (take n path.now) attr result }
-    {
-        self.root.set(path.first_names(n), attr)
-    }
-
     /// The names of the children of the group at the path, in the order of their bytes; None if there is no such group.
     /// Descends once, as `find` does, and allocates nothing.
     pub fn child_names<B: Allocator + Clone>(
@@ -92,39 +77,6 @@ impl<A: Allocator> GroupTree<A> {
         ensures exact { fin.len self.now < 2 ^ 64 → IfSome result (λ n. n ≡ descendant_count self.now path.now) }
     {
         self.root.descendants(path.names())
-    }
-
-    /// How many groups are strictly below the group at the first `n` names of the path, as `descendants` counts them.
-    pub fn descendants_at<B: Allocator + Clone>(&self, path: &GroupPath<B>, n: usize) -> Option<u64>
-        requires { n ≤ length path.now }
-        ensures counted { MatchOption result (fin.get self.now (take n path.now) ≡ None)
-            (λ k. IsSome (fin.get self.now (take n path.now)) × (k ≡ descendant_count self.now (take n path.now) % 2 ^ 64)) }
-        ensures exact { fin.len self.now < 2 ^ 64 → IfSome result (λ k. k ≡ descendant_count self.now (take n path.now)) }
-    {
-        self.root.descendants(path.first_names(n))
-    }
-
-    /// The slots of the groups from the path's own group upward, without the root; None if there is no such group. Up to
-    /// eight slots and None need no allocation. Descends once, as `find` does.
-    ///
-    /// # Errors
-    ///
-    /// `AllocError` if there are more than eight slots and their allocation fails.
-    pub fn chain<B: Allocator + Clone>(
-        &self,
-        path: &GroupPath<B>,
-    ) -> Result<Option<SmallVec<u16, 8, &A>>, AllocError>
-        ensures chain { IfOk result (λ o. MatchOption o (fin.get self.now path.now ≡ None) (λ slots. IsSome (fin.get self.now path.now) × (slots.items ≡ chain_of self.now path.now))) }
-        ensures inline { length path.now ≤ 8 → IsOk result }
-        ensures absent { fin.get self.now path.now ≡ None → result ≡ Ok None }
-    {
-        let alloc = self.root.allocator();
-        let mut slots = SmallVec::new(alloc);
-        if self.root.push_chain(path.names(), &mut slots)? {
-            Ok(Some(slots))
-        } else {
-            Ok(None)
-        }
     }
 
     /// Removes a group that has no groups below it, and returns its attributes. Allocates nothing. Costs as much as `find`,
