@@ -31,11 +31,12 @@ up_does slots n s c p (Ok x) new h does = subst (HasEventsUpTo (n + 1)) (sym doe
 up_does slots n s c p (Err f) new h does = subst (HasEventsUpTo (n + 1)) (sym does.1) (up_fault n s (refusal_of_fault p f) h)
 
 -- a fork that is counted where a limit refuses it
-pub up_forked : {A : Type 0} (slots n : ℕ) (s : State) (from child : ℕ) (r : Result (ForkOutcome A) ChargeFault) (new : State) → HasEventsUpTo n s
+pub up_forked : {A : Type 0} (slots n : ℕ) (s : State) (from child : ℕ) {E : Type 0} (r : Result (ForkOutcome A) E) (new : State) → HasEventsUpTo n s
     → IfOk r (λ o. ForksTo slots s from child o new) → OnErr r (new ≡ s) → HasEventsUpTo (n + 1) new
 up_forked slots n s from child (Ok (fork.Made peaks)) new h ok err =
     subst (HasEventsUpTo (n + 1)) (sym ok.1) (up_one_more n (after s (Fork from child)) (up_after n s (Fork from child) h))
 up_forked slots n s from child (Ok (fork.Counted path shared)) new h ok err = subst (HasEventsUpTo (n + 1)) (sym ok.1) (up_refused n s (OverPidsMax path) h)
+up_forked slots n s from child (Ok (fork.Refused r)) new h ok err = subst (HasEventsUpTo (n + 1)) (sym ok.1) (up_one_more n s h)
 up_forked slots n s from child (Err f) new h ok err = subst (HasEventsUpTo (n + 1)) (sym err) (up_one_more n s h)
 
 one_down : (n k : ℕ) (b : Bool) → k ≤ n → k - cond b 1 0 ≤ n

@@ -35,7 +35,7 @@ pub(crate) fn make_group<A: Allocator + Clone>(
     ensures up { (n : ℕ) → HasEventsUpTo n charges.old → HasEventsUpTo (n + 1) charges.new }
 {
     match charges.refuses_mkdir(path) {
-        Some(fault) => Err(fault),
+        Some(refusal) => Err(ChargeFault::from(refusal)),
         None => Ok(charges.make_group(path)?),
     }
 }
@@ -65,7 +65,7 @@ pub(crate) fn take_group<A: Allocator + Clone>(
     ensures up { (n : ℕ) → HasEventsUpTo n charges.old → HasEventsUpTo (n + 1) charges.new }
 {
     match charges.refuses_rmdir(path) {
-        Some(fault) => Err(fault),
+        Some(refusal) => Err(ChargeFault::from(refusal)),
         None => Ok(charges.take_group(path)),
     }
 }
@@ -143,7 +143,7 @@ pub(crate) fn fork_or_count<A: Allocator + Clone>(
     parent: Pid,
     child: Pid,
     can_count: bool,
-) -> Result<ForkOutcome<A>, ChargeFault>
+) -> Result<ForkOutcome<A>, AllocError>
     requires { IsTrue can_count → HasRoomForEvents charges.old }
     ensures up { (n : ℕ) → HasEventsUpTo n charges.old → HasEventsUpTo (n + 1) charges.new }
 {

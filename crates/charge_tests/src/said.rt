@@ -88,13 +88,14 @@ pub(crate) fn say_peaks<A: Allocator + Clone>(
     Ok(Outcome::Answered)
 }
 
-/// The old peaks of a fork that was made, or twice the group whose limit refused it.
+/// The old peaks of a fork that was made, or twice the group whose limit refused it, or its refusal.
 pub(crate) fn say_forked<A: Allocator + Clone>(
     said: &mut String,
-    forked: Result<ForkOutcome<A>, ChargeFault>,
+    forked: Result<ForkOutcome<A>, AllocError>,
 ) -> Result<Outcome, AllocError> {
     match forked {
-        Err(fault) => return say_fault(said, fault),
+        Err(_) => return Ok(Outcome::Refused),
+        Ok(ForkOutcome::Refused(refusal)) => return say_fault(said, ChargeFault::from(refusal)),
         Ok(ForkOutcome::Made(peaks)) => push_peaks(said, &peaks)?,
         Ok(ForkOutcome::Counted { path, shared }) => {
             said.push_str("counted ")?;
@@ -109,10 +110,10 @@ pub(crate) fn say_forked<A: Allocator + Clone>(
 /// The same where a refused fork can't be counted, and is out of memory instead.
 pub(crate) fn say_uncounted<A: Allocator + Clone>(
     said: &mut String,
-    forked: Result<ForkOutcome<A>, ChargeFault>,
+    forked: Result<ForkOutcome<A>, AllocError>,
 ) -> Result<Outcome, AllocError> {
     match forked {
-        Err(ChargeFault::OutOfMemory) => said.push_str("not counted")?,
+        Err(_) => said.push_str("not counted")?,
         other => return say_forked(said, other),
     }
     Ok(Outcome::Answered)

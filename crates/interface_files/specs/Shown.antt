@@ -7,16 +7,31 @@ use Rattle.flat_model.specs.File as model_file
 use Rattle.flat_model.specs.Command as model
 use Rattle.flat_model.specs.FileText.{file_text, home_text}
 use Rattle.flat_model.specs.Step.{refusal}
+use Rattle.interface_files.specs.declared.cat.Shown.{Shown}
+use Rattle.interface_files.specs.declared.cat.Shown.TheVariants.{Text, Refused}
+use Rattle.interface_files.specs.declared.fault.ShowRefusal.{ShowRefusal}
+use Rattle.interface_files.specs.declared.fault.ShowRefusal.TheVariants as refused
 use Rattle.interface_files.specs.declared.fault.ShowFault.{ShowFault}
 use Rattle.interface_files.specs.declared.fault.ShowFault.TheVariants.{NoGroup, NoFile, NotReadable, OutOfMemory, NoProcess}
 
--- the refusal of a fault, if p is the group; out of memory is not a refusal, and no file asks for a process
-abbrev pub refusal_of_show : Path → ShowFault → Option model.Refusal
-refusal_of_show p NotReadable = Some model.NotReadable
-refusal_of_show p NoGroup = Some (model.NoGroup p)
-refusal_of_show p NoFile = Some model.NoFile
-refusal_of_show p OutOfMemory = None
-refusal_of_show p NoProcess = None
+-- the refusal of the flat state, if p is the group
+abbrev pub refusal_to_show : Path → ShowRefusal → model.Refusal
+refusal_to_show p refused.NotReadable = model.NotReadable
+refusal_to_show p refused.NoGroup = model.NoGroup p
+refusal_to_show p refused.NoFile = model.NoFile
+
+-- the file of the group at p or its first refusal, if there may be `slots` groups besides the root
+abbrev pub ShowsTo : {B : Type 0} → ℕ → State → Path → model_file.File → Shown B → Type 0
+ShowsTo slots s p file (Text text) = (refusal slots s (model.Show p file) ≡ None) × (text.items ≡ file_text s p file)
+ShowsTo slots s p file (Refused r) = refusal slots s (model.Show p file) ≡ Some (refusal_to_show p r)
+
+-- the refusal that a fault is; out of memory is none, and no file asks for a process
+abbrev pub show_refusal_in : ShowFault → Option ShowRefusal
+show_refusal_in NotReadable = Some refused.NotReadable
+show_refusal_in NoGroup = Some refused.NoGroup
+show_refusal_in NoFile = Some refused.NoFile
+show_refusal_in OutOfMemory = None
+show_refusal_in NoProcess = None
 
 -- the file of the group at p, if there may be `slots` groups besides the root
 abbrev pub Shows : {B : Type 0} → ℕ → State → Path → model_file.File → Result (Vec ℕ B) ShowFault → Type 0

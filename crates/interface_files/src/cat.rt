@@ -1,41 +1,49 @@
 //! Reading a file of a group.
 
-ghost use Rattle.std.specs.Prelude.{◌≡◌, true, None, IfOk, IfSome, IsSome, MatchOption, is_none, is_some};
+ghost use Rattle.std.specs.Prelude.{◌≡◌, true, None, IfOk, IfSome, OnErr, is_none, is_some, option_map};
 ghost use Rattle.flat_model.specs.Command.{Show};
 ghost use Rattle.flat_model.specs.Counts.{is_group};
 ghost use Rattle.flat_model.specs.FileText.{file_text};
 ghost use Rattle.flat_model.specs.File as model_file;
 ghost use Rattle.flat_model.specs.Step.{refusal};
 ghost use Rattle.interface_files.specs.FileMeaning.{file_of};
-ghost use Rattle.interface_files.specs.Shown.{Shows, refusal_of_show};
+ghost use Rattle.interface_files.specs.Shown.{Shows, ShowsTo, refusal_to_show};
 
-use crate::fault::ShowFault;
+use crate::fault::{ShowFault, ShowRefusal};
 use crate::file::File;
 use crate::texts::{events_line, limit_line, number_line, pids_text, populated_text, stat_text};
 use group_path::GroupPath;
 use pids_charge::{Charges, Meter};
 use std::alloc::{AllocError, Allocator};
 
-/// The refusal that `render` would return, apart from memory. Costs at most one descent of the tree.
+/// What reading a file leads to.
+#[derive(Drop)]
+pub enum Shown<B: Allocator> {
+    /// The text of the file.
+    Text(Vec<u8, B>),
+    /// There is no such group or file, or the file can't be read.
+    Refused(ShowRefusal),
+}
+
+/// The refusal that `show` would return. Costs at most one descent of the tree.
 pub fn refuses_show<A: Allocator + Clone, M: Meter, P: Allocator + Clone>(
     charges: &Charges<A, M>,
     path: &GroupPath<P>,
     file: File,
-) -> Option<ShowFault>
-    ensures first { MatchOption result (refusal M.SLOTS charges.now (Show path.now (file_of file)) ≡ None) (λ f. refusal M.SLOTS charges.now (Show path.now (file_of file)) ≡ refusal_of_show path.now f) }
-    ensures refused { IfSome result (λ f. IsSome (refusal_of_show path.now f)) }
+) -> Option<ShowRefusal>
+    ensures { refusal M.SLOTS charges.now (Show path.now (file_of file)) ≡ option_map (refusal_to_show path.now) result }
 {
     if !file.readable() {
-        return Some(ShowFault::NotReadable);
+        return Some(ShowRefusal::NotReadable);
     }
     if charges.attr(path).is_none() {
-        return Some(ShowFault::NoGroup);
+        return Some(ShowRefusal::NoGroup);
     }
     if file.on_root() {
         return None;
     }
     if path.depth() == 0 {
-        return Some(ShowFault::NoFile);
+        return Some(ShowRefusal::NoFile);
     }
     None
 }
@@ -89,11 +97,37 @@ fn text_of<A: Allocator + Clone, M: Meter, B: Allocator + Clone, P: Allocator + 
     }
 }
 
-/// The text of a file of the group at the path. It changes nothing; it borrows the charges mutably because reading a meter
+/// The text of a file of the group at the path, or the first refusal that applies: `NotReadable` for `cgroup.kill`; `NoGroup`;
+/// `NoFile` for a file that the root doesn't have. It changes nothing; it borrows the charges mutably because reading a meter
 /// requires it.
 ///
 /// `cgroup.procs` costs O(n log n) for n processes of the group. Every other file costs one descent of the tree, and every
 /// refusal at most two, however many groups and processes there are.
+///
+/// # Errors
+///
+/// `AllocError`, only for a file that is not refused.
+pub fn show<A: Allocator + Clone, M: Meter, B: Allocator + Clone, P: Allocator + Clone>(
+    alloc: B,
+    charges: &mut Charges<A, M>,
+    path: &GroupPath<P>,
+    file: File,
+) -> Result<Shown<B>, AllocError>
+    ensures shown { IfOk result (λ shown. ShowsTo M.SLOTS charges.old path.now (file_of file) shown) }
+    ensures ready { OnErr result (refusal M.SLOTS charges.old (Show path.now (file_of file)) ≡ None) }
+    ensures kept { charges.new ≡ charges.old }
+{
+    match text_of(alloc, charges, path, file) {
+        Some(Ok(text)) => Ok(Shown::Text(text)),
+        Some(Err(error)) => Err(error),
+        None => match refuses_show(charges, path, file) {
+            Some(refusal) => Ok(Shown::Refused(refusal)),
+            None => unreachable!(),
+        },
+    }
+}
+
+/// `show`, with one error for memory and refusals.
 ///
 /// # Errors
 ///
@@ -108,12 +142,8 @@ pub fn render<A: Allocator + Clone, M: Meter, B: Allocator + Clone, P: Allocator
     ensures shown { Shows M.SLOTS charges.old path.now (file_of file) result }
     ensures kept { charges.new ≡ charges.old }
 {
-    match text_of(alloc, charges, path, file) {
-        Some(Ok(text)) => Ok(text),
-        Some(Err(_)) => Err(ShowFault::OutOfMemory),
-        None => match refuses_show(charges, path, file) {
-            Some(fault) => Err(fault),
-            None => unreachable!(),
-        },
+    match show(alloc, charges, path, file)? {
+        Shown::Text(text) => Ok(text),
+        Shown::Refused(refusal) => Err(ShowFault::from(refusal)),
     }
 }

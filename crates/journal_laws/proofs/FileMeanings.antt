@@ -1,5 +1,5 @@
 -- Each file and fault of the model has one of this crate.
-use Rattle.std.proofs.Common.{◌≡◌, ◌↔◌, ◌⊎◌, inl, inr, ℕ, Option, Some, None, Err, refl, sym, ap, ◌∙◌}
+use Rattle.std.proofs.Common.{◌≡◌, ◌↔◌, ◌⊎◌, inl, inr, ℕ, Some, None, Err, option_map, refl, sym, ap, ◌∙◌}
 use Rattle.flat_model.specs.File as model_file
 use Rattle.flat_model.specs.Values as model_values
 use Rattle.flat_model.specs.Command as model
@@ -9,7 +9,9 @@ use Rattle.flat_model.specs.Step.{refusal}
 use Rattle.group_tree.specs.declared.attr.LimitFile.{LimitFile}
 use Rattle.group_tree.specs.declared.attr.LimitFile.TheVariants as limit
 use Rattle.interface_files.specs.FileMeaning.{file_of, kind_of, value_fault_of}
-use Rattle.interface_files.specs.Shown.{Shows, refusal_of_show}
+use Rattle.interface_files.specs.Shown.{Shows, refusal_to_show, show_refusal_in}
+use Rattle.interface_files.specs.declared.fault.ShowRefusal.{ShowRefusal}
+use Rattle.interface_files.specs.declared.fault.ShowRefusal.TheVariants as refused
 use Rattle.interface_files.specs.declared.fault.ShowFault.{ShowFault}
 use Rattle.interface_files.specs.declared.fault.ShowFault.TheVariants as show
 use Rattle.interface_files.specs.declared.file.Written.{Written}
@@ -74,33 +76,30 @@ kinds_apart w v e = sym (back_is w) ∙ ap kind_back e ∙ back_is v
 
 -- ---- the refusal that a fault stands for
 
-pub stands_for : (slots : ℕ) (s : State) (p : Path) (file : model_file.File) (f : ShowFault) (r : model.Refusal) → refusal_of_show p f ≡ Some r
-    → Shows {B = ℕ} slots s p file (Err f) ↔ (refusal slots s (model.Show p file) ≡ Some r)
-stands_for slots s p file show.NotReadable r e = (λ h. h ∙ e, λ h. h ∙ sym e)
-stands_for slots s p file show.NoGroup r e = (λ h. h ∙ e, λ h. h ∙ sym e)
-stands_for slots s p file show.NoFile r e = (λ h. h ∙ e, λ h. h ∙ sym e)
+pub stands_for : (slots : ℕ) (s : State) (p : Path) (file : model_file.File) (f : ShowFault) (r : ShowRefusal) → show_refusal_in f ≡ Some r
+    → Shows {B = ℕ} slots s p file (Err f) ↔ (refusal slots s (model.Show p file) ≡ Some (refusal_to_show p r))
+stands_for slots s p file show.NotReadable r e = let same = ap (option_map (refusal_to_show p)) e in (λ h. h ∙ same, λ h. h ∙ sym same)
+stands_for slots s p file show.NoGroup r e = let same = ap (option_map (refusal_to_show p)) e in (λ h. h ∙ same, λ h. h ∙ sym same)
+stands_for slots s p file show.NoFile r e = let same = ap (option_map (refusal_to_show p)) e in (λ h. h ∙ same, λ h. h ∙ sym same)
 stands_for slots s p file show.OutOfMemory r e = cc
 stands_for slots s p file show.NoProcess r e = cc
 
-pub stands_for_none : (p : Path) (f : ShowFault) → (refusal_of_show p f ≡ None) ↔ ((f ≡ show.OutOfMemory) ⊎ (f ≡ show.NoProcess))
-stands_for_none p show.NotReadable = (λ e. cc, λ h. elim h [ inl e ↦ cc | inr e ↦ cc ])
-stands_for_none p show.NoGroup = (λ e. cc, λ h. elim h [ inl e ↦ cc | inr e ↦ cc ])
-stands_for_none p show.NoFile = (λ e. cc, λ h. elim h [ inl e ↦ cc | inr e ↦ cc ])
-stands_for_none p show.OutOfMemory = (λ e. inl refl, λ h. refl)
-stands_for_none p show.NoProcess = (λ e. inr refl, λ h. refl)
+pub stands_for_none : (f : ShowFault) → (show_refusal_in f ≡ None) ↔ ((f ≡ show.OutOfMemory) ⊎ (f ≡ show.NoProcess))
+stands_for_none show.NotReadable = (λ e. cc, λ h. elim h [ inl e ↦ cc | inr e ↦ cc ])
+stands_for_none show.NoGroup = (λ e. cc, λ h. elim h [ inl e ↦ cc | inr e ↦ cc ])
+stands_for_none show.NoFile = (λ e. cc, λ h. elim h [ inl e ↦ cc | inr e ↦ cc ])
+stands_for_none show.OutOfMemory = (λ e. inl refl, λ h. refl)
+stands_for_none show.NoProcess = (λ e. inr refl, λ h. refl)
 
-abbrev fault_back : Option model.Refusal → ShowFault
-fault_back None = show.OutOfMemory
-fault_back (Some model.NotReadable) = show.NotReadable
-fault_back (Some (model.NoGroup p)) = show.NoGroup
-fault_back (Some r) = show.NoFile
+abbrev refusal_back : model.Refusal → ShowRefusal
+refusal_back model.NotReadable = refused.NotReadable
+refusal_back (model.NoGroup p) = refused.NoGroup
+refusal_back r = refused.NoFile
 
-stood_for : (p : Path) (f : ShowFault) (r : model.Refusal) → refusal_of_show p f ≡ Some r → fault_back (Some r) ≡ f
-stood_for p show.NotReadable r e = sym (ap fault_back e)
-stood_for p show.NoGroup r e = sym (ap fault_back e)
-stood_for p show.NoFile r e = sym (ap fault_back e)
-stood_for p show.OutOfMemory r e = cc
-stood_for p show.NoProcess r e = cc
+back_again : (p : Path) (r : ShowRefusal) → refusal_back (refusal_to_show p r) ≡ r
+back_again p refused.NotReadable = refl
+back_again p refused.NoGroup = refl
+back_again p refused.NoFile = refl
 
-pub one_stands_for : (p : Path) (f g : ShowFault) (r : model.Refusal) → refusal_of_show p f ≡ Some r → refusal_of_show p g ≡ Some r → f ≡ g
-one_stands_for p f g r e h = sym (stood_for p f r e) ∙ stood_for p g r h
+pub one_stands_for : (p : Path) (q r : ShowRefusal) → refusal_to_show p q ≡ refusal_to_show p r → q ≡ r
+one_stands_for p q r e = sym (back_again p q) ∙ ap refusal_back e ∙ back_again p r

@@ -15,7 +15,9 @@ ghost use Rattle.flat_model.specs.Step.{refusal};
 ghost use Rattle.flat_model.specs.Values as model_values;
 ghost use Rattle.group_tree.specs.declared.attr.LimitFile.TheVariants as limit;
 ghost use Rattle.interface_files.specs.FileMeaning.{file_of, kind_of, value_fault_of, reading_of};
-ghost use Rattle.interface_files.specs.Shown.{Shows, ShowsHome, refusal_of_show};
+ghost use Rattle.interface_files.specs.Shown.{Shows, ShowsHome, ShowsTo, refusal_to_show, show_refusal_in};
+ghost use Rattle.interface_files.specs.declared.cat.Shown.TheVariants as shown;
+ghost use Rattle.interface_files.specs.declared.fault.ShowRefusal.{ShowRefusal};
 ghost use Rattle.interface_files.specs.declared.fault.ShowFault.{ShowFault};
 ghost use Rattle.interface_files.specs.declared.fault.ShowFault.TheVariants.{
   NoGroup,
@@ -125,13 +127,15 @@ pub fn faults_are_told_apart()
 /// A fault stands for the model's refusal of showing the file. Out of memory stands for none, and neither does a missing
 /// process, which no file asks for.
 pub fn faults_stand_for_refusals()
-    ensures refused { (slots : ℕ) (s : State) (p : Path) (file : model_file.File) (f : ShowFault) (r : model.Refusal)
-        → refusal_of_show p f ≡ Some r
-        → Shows {B = ℕ} slots s p file (Err f) ↔ (refusal slots s (model.Show p file) ≡ Some r) }
-    ensures others { (p : Path) (f : ShowFault)
-        → (refusal_of_show p f ≡ None) ↔ ((f ≡ OutOfMemory) ⊎ (f ≡ NoProcess)) }
-    ensures one { (p : Path) (f g : ShowFault) (r : model.Refusal)
-        → refusal_of_show p f ≡ Some r → refusal_of_show p g ≡ Some r → f ≡ g }
+    ensures refused { (slots : ℕ) (s : State) (p : Path) (file : model_file.File) (f : ShowFault) (r : ShowRefusal)
+        → show_refusal_in f ≡ Some r
+        → Shows {B = ℕ} slots s p file (Err f) ↔ (refusal slots s (model.Show p file) ≡ Some (refusal_to_show p r)) }
+    ensures same { (slots : ℕ) (s : State) (p : Path) (file : model_file.File) (f : ShowFault) (r : ShowRefusal)
+        → show_refusal_in f ≡ Some r
+        → Shows {B = ℕ} slots s p file (Err f) ↔ ShowsTo {B = ℕ} slots s p file (shown.Refused r) }
+    ensures others { (f : ShowFault)
+        → (show_refusal_in f ≡ None) ↔ ((f ≡ OutOfMemory) ⊎ (f ≡ NoProcess)) }
+    ensures one { (p : Path) (q r : ShowRefusal) → refusal_to_show p q ≡ refusal_to_show p r → q ≡ r }
 {}
 
 /// The result for the group of a process means one thing only: the model's text if the process

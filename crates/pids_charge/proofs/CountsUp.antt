@@ -7,7 +7,7 @@ use Rattle.flat_model.proofs.MapValues.{keys-map_values}
 use Rattle.group_tree.specs.Groups.{Groups, IsClosed, descendant_count, only_root}
 use Rattle.group_tree.specs.declared.attr.Attr.{Attr}
 use Rattle.pids_charge.specs.declared.above.Change.TheVariants.{Raise, Lower}
-use Rattle.pids_charge.specs.GroupRows.{ChangesCounts, HasCounts, HasRows, below_after, in_row, with_rows}
+use Rattle.pids_charge.specs.GroupRows.{ChangesCounts, HasCounts, HasRows, stepped, in_row, with_rows}
 use Rattle.pids_charge.specs.Lists.{row_at}
 use Rattle.pids_charge.proofs.BelowCounts.{below_few, below_left, below_made, below_own, not_above, not_itself, strictly_above}
 use Rattle.pids_charge.proofs.Changes.{which}
@@ -50,37 +50,37 @@ root_counts root = λ q i.
 module _ (s m : Groups) (p : Path) (named : 0 < length p) (belows after : List ℕ) where
   pub made_counts : (x : Attr) → fin.len s < 2 ^ 16 → IsClosed s → fin.get s p ≡ None → m ≡ fin.insert s p x
       → ((q : Path) → IsSome (fin.get s q) → get_or belows (row_at m q) 0 ≡ descendant_count s q) → get_or belows (row_at m p) 0 ≡ 0
-      → ChangesCounts (below_after Raise) m (parent p) belows after → HasCounts m after
+      → ChangesCounts (stepped (2 ^ 32 - 1) Raise) m (parent p) belows after → HasCounts m after
   made_counts x few whole absent is others own changes = λ q i. changes q i ∙ elim (which s p x q) [
     | inl w ↦
         let at : at_or_below (parent p) q ≡ false = ap (at_or_below (parent p)) w.0 ∙ not_above p named in
-        ap (λ b. cond b (below_after Raise (get_or belows (row_at m q) 0)) (get_or belows (row_at m q) 0)) at
+        ap (λ b. cond b (stepped (2 ^ 32 - 1) Raise (get_or belows (row_at m q) 0)) (get_or belows (row_at m q) 0)) at
         ∙ ap (λ (r : Path). get_or belows (row_at m r) 0) w.0 ∙ own ∙ sym (below_own s p x whole absent) ∙ ap (descendant_count (fin.insert s p x)) (sym w.0)
         ∙ ap (λ (n : Groups). descendant_count n q) (sym is)
     | inr w ↦
         let old : IsSome (fin.get s q) = subst IsSome (ap (λ (n : Groups). fin.get n q) is ∙ w.1) i in
         let more = below_made s p x q absent in
         let all = below_few s q in
-        ap (λ n. cond (at_or_below (parent p) q) (below_after Raise n) n) (others q old)
-        ∙ ap (λ b. cond b (below_after Raise (descendant_count s q)) (descendant_count s q)) (sym (strictly_above p q named w.0))
+        ap (λ n. cond (at_or_below (parent p) q) (stepped (2 ^ 32 - 1) Raise n) n) (others q old)
+        ∙ ap (λ b. cond b (stepped (2 ^ 32 - 1) Raise (descendant_count s q)) (descendant_count s q)) (sym (strictly_above p q named w.0))
         ∙ one_more (strictly_below p q) (descendant_count s q) (omega (arith, all, few)) ∙ sym more ∙ ap (λ (n : Groups). descendant_count n q) (sym is)
   ]
     where
-      one_more : (b : Bool) (n : ℕ) → n < 2 ^ 16 → cond b (below_after Raise n) n ≡ cond b 1 0 + n
+      one_more : (b : Bool) (n : ℕ) → n < 2 ^ 16 → cond b (stepped (2 ^ 32 - 1) Raise n) n ≡ cond b 1 0 + n
       one_more true n l = let small : n + 1 ≤ 2 ^ 32 - 1 = omega (arith, l) in let one : n + 1 ≡ 1 + n = omega arith in min-eq_left small ∙ one
       one_more false n l = omega arith
 
   pub left_counts : (x : Attr) → fin.get s p ≡ Some x → m ≡ fin.remove s p → fin.get m p ≡ None
       → ((q : Path) → IsSome (fin.get m q) → get_or belows (row_at m q) 0 ≡ descendant_count s q)
-      → ChangesCounts (below_after Lower) m (parent p) belows after → HasCounts m after
+      → ChangesCounts (stepped (2 ^ 32 - 1) Lower) m (parent p) belows after → HasCounts m after
   left_counts x here is gone others changes = λ q i.
       let apart : q ≡ p → ⊥ = λ e. let none : IsSome {T = Attr} None = subst IsSome (ap (fin.get m) e ∙ gone) i in cc in
       let less : descendant_count s q ≡ cond (strictly_below p q) 1 0 + descendant_count m q =
       below_left s p x q here (ap (λ (n : Groups). fin.get n p) (sym is) ∙ gone) ∙ ap (λ (n : Groups). cond (strictly_below p q) 1 0 + descendant_count n q) (sym is) in
-      changes q i ∙ ap (λ n. cond (at_or_below (parent p) q) (below_after Lower n) n) (others q i ∙ less)
-      ∙ ap (λ b. cond b (below_after Lower (cond (strictly_below p q) 1 0 + descendant_count m q)) (cond (strictly_below p q) 1 0 + descendant_count m q)) (sym (strictly_above p q named apart))
+      changes q i ∙ ap (λ n. cond (at_or_below (parent p) q) (stepped (2 ^ 32 - 1) Lower n) n) (others q i ∙ less)
+      ∙ ap (λ b. cond b (stepped (2 ^ 32 - 1) Lower (cond (strictly_below p q) 1 0 + descendant_count m q)) (cond (strictly_below p q) 1 0 + descendant_count m q)) (sym (strictly_above p q named apart))
       ∙ one_less (strictly_below p q) (descendant_count m q)
     where
-      one_less : (b : Bool) (n : ℕ) → cond b (below_after Lower (cond b 1 0 + n)) (cond b 1 0 + n) ≡ n
+      one_less : (b : Bool) (n : ℕ) → cond b (stepped (2 ^ 32 - 1) Lower (cond b 1 0 + n)) (cond b 1 0 + n) ≡ n
       one_less true n = omega arith
       one_less false n = omega arith

@@ -28,10 +28,11 @@ use Rattle.group_tree.specs.Flat.{group_of}
 use Rattle.flat_model.proofs.MapValues.{get-map_values, len-map_values}
 use Rattle.group_tree.specs.declared.attr.Attr.{Attr}
 use Rattle.pids_charge.specs.Events.{flat_of}
-use Rattle.pids_charge.specs.HierarchyLimits.{IsFirstMet, refusal_along}
+use Rattle.pids_charge.specs.Answers.{refusal_along}
+use Rattle.pids_charge.specs.HierarchyLimits.{IsFirstMet}
 use Rattle.pids_charge.specs.Lists.{Row}
 use Rattle.pids_charge.specs.Recount.{state_of}
-use Rattle.pids_charge.specs.declared.hierarchy.MetLimit.{MetLimit}
+use Rattle.pids_charge.specs.declared.fault.ChargeRefusal.{ChargeRefusal}
 
 lt-ltb : {m n : ℕ} → m < n → ltb m n ≡ true
 lt-ltb h = grind (arith, nat_tests)
@@ -115,7 +116,7 @@ module _ {A : Type 0} (tree : Groups) (es : List (Row A)) where
   same_walk q (a ∷ way) = ap (option_or (limit_met (state_of tree es) q a)) (same_walk q way)
 
   -- the first limit that a new group meets, in the flat state
-  pub blocked-is : (s : State) → state_of tree es ≡ s → (p : Path) (met : Option MetLimit) → IsFirstMet tree p met → blocked_make s p ≡ option_map (refusal_along p) met
+  pub blocked-is : (s : State) → state_of tree es ≡ s → (p : Path) (met : Option ChargeRefusal) → IsFirstMet tree p met → blocked_make s p ≡ option_map (refusal_along p) met
   blocked-is s v p met h = ap (λ (t : State). blocked_make t p) (sym v) ∙ sym (h.first ∙ same_walk (parent p) (upward (parent p)))
 
   pub len-is : (s : State) → state_of tree es ≡ s → fin.len s.groups ≡ fin.len tree

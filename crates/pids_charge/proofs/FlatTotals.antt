@@ -13,8 +13,9 @@ use Rattle.flat_model.proofs.PathLaws.{path_cmp-IsTotalOrder, path_cmp-IsAntisym
 use Rattle.group_tree.specs.Flat.{group_of}
 use Rattle.group_tree.specs.Groups.{Groups, slot_of, IsClosed}
 use Rattle.group_tree.specs.declared.attr.Attr.{Attr}
+use Rattle.pids_charge.specs.GroupRows.{stepped}
 use Rattle.pids_charge.specs.declared.above.Change.TheVariants.{Raise}
-use Rattle.pids_charge.specs.Events.{counted_by, CountsRefusals, flat_of, stepped}
+use Rattle.pids_charge.specs.Events.{counted_by, CountsRefusals, flat_of}
 use Rattle.pids_charge.specs.Recount.{SameSlots}
 use Rattle.pids_charge.proofs.EachChanged.{len-changes, some_stays}
 
@@ -34,13 +35,13 @@ down_each a q attr = λ i. record (group_of attr) { local = one_down (same_path 
 
 -- where no total is the greatest, none stays there
 pub raised : (old new : Groups) (a : Path)
-    → ((q : Path) (attr : Attr) → fin.get old q ≡ Some attr → (attr.local < 2 ^ 64 - 1) × (attr.total < 2 ^ 64 - 1)) → CountsRefusals (stepped Raise) old new a → CountsRefusals (λ n. n + 1) old new a
+    → ((q : Path) (attr : Attr) → fin.get old q ≡ Some attr → (attr.local < 2 ^ 64 - 1) × (attr.total < 2 ^ 64 - 1)) → CountsRefusals (stepped (2 ^ 64 - 1) Raise) old new a → CountsRefusals (λ n. n + 1) old new a
 raised old new a room counts q = counts q ∙ each (fin.get old q) (room q)
   where
     below : (n : ℕ) → n < 2 ^ 64 - 1 → min (n + 1) (2 ^ 64 - 1) ≡ n + 1
     below n h = omega arith
 
-    each : (o : Option Attr) → ((x : Attr) → o ≡ Some x → (x.local < 2 ^ 64 - 1) × (x.total < 2 ^ 64 - 1)) → option_map (counted_by (stepped Raise) a q) o ≡ option_map (counted_by (λ n. n + 1) a q) o
+    each : (o : Option Attr) → ((x : Attr) → o ≡ Some x → (x.local < 2 ^ 64 - 1) × (x.total < 2 ^ 64 - 1)) → option_map (counted_by (stepped (2 ^ 64 - 1) Raise) a q) o ≡ option_map (counted_by (λ n. n + 1) a q) o
     each None h = refl
     each (Some x) h = λ i. Some (record x { local = cond (same_path q a) (below x.local (h x refl).0 i) x.local; total = cond (counts_for a q) (below x.total (h x refl).1 i) x.total })
 

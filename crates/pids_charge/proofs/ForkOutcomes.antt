@@ -1,5 +1,5 @@
 -- What a fork is refused with, and what it leaves.
-use Rattle.std.proofs.Common.{◌≡◌, ℕ, ◌+◌, ◌<◌, Bool, true, false, cond, not, Option, Some, None, IsSome, is_some, Result, Ok, Err, IfErr, OnOk}
+use Rattle.std.proofs.Common.{◌≡◌, ℕ, ◌+◌, ◌<◌, Bool, true, false, cond, not, Option, Some, None, IsSome, is_some, Result, Ok, Err, OnErr}
 use Rattle.std.proofs.Common.{List, [], length, take, option_map, unwrap_or, refl, sym, ap, ◌∙◌}
 use Rattle.std.proofs.lemmas.Bool.{false≢true}
 use Rattle.std.specs.Ordering.{nat_cmp}
@@ -7,17 +7,15 @@ use Rattle.std.specs.List.Sorted.{IsStrictlySortedBy}
 use Rattle.std.specs.Map.{keys_of, lookup}
 use Rattle.std.specs.BTreeMap.{is_at, insert_entry}
 use Rattle.std.specs.FinMap as fin
-use Rattle.flat_model.specs.Path.{Path, at_or_below}
+use Rattle.flat_model.specs.Path.{Path, at_or_below, upward}
 use Rattle.flat_model.specs.State.{State}
-use Rattle.flat_model.specs.Counts.{has_process, blocked_fork}
+use Rattle.flat_model.specs.Counts.{first_path, has_process, blocked_fork}
 use Rattle.flat_model.specs.Command.{Refusal, Fork, NoProcess, PidInUse, OverPidsMax}
 use Rattle.flat_model.specs.CommandText.{IsPid}
 use Rattle.flat_model.specs.Step.{refusal, home_of, after, raise_peaks}
 use Rattle.group_tree.specs.Groups.{Groups}
-use Rattle.pids_charge.specs.declared.fault.ChargeFault.{ChargeFault}
-use Rattle.pids_charge.specs.declared.fault.ChargeFault.TheVariants.{OutOfMemory}
 use Rattle.pids_charge.specs.Content.{Content}
-use Rattle.pids_charge.specs.Events.{full_by, longest}
+use Rattle.pids_charge.specs.Events.{is_full_by}
 use Rattle.pids_charge.specs.Lists.{Row, process_in}
 use Rattle.pids_charge.specs.Peaks.{raised_by}
 use Rattle.pids_charge.specs.Recount.{Recounted, IsPlaced, HasSlots, SameSlots, state_of, with_charges}
@@ -62,13 +60,9 @@ pub pids_ready : {A : Type 0} (tree : Groups) (es : List (Row A)) → IsStrictly
 pids_ready tree es ordered s v parent child x found new = (process-is s tree es v ordered parent ∙ ap is_some found, process-is s tree es v ordered child ∙ new)
 
 -- what holds of any fork that is out of memory
-pub when_out_of_memory : {T : Type 0} (P : Type 0) (r : Result T ChargeFault) → P → IfErr r (λ f. f ≡ OutOfMemory → P)
-when_out_of_memory P (Ok x) h = tt
-when_out_of_memory P (Err f) h = λ _. h
-
-twice : (q : Path) (o : Option ℕ) → option_map OverPidsMax (option_map (λ n. take n q) o) ≡ option_map (λ n. OverPidsMax (take n q)) o
-twice q None = refl
-twice q (Some n) = refl
+pub on_err : {T E : Type 0} (P : Type 0) (r : Result T E) → P → OnErr r P
+on_err P (Ok x) h = tt
+on_err P (Err e) h = h
 
 module _ {A : Type 0} (slots leaves : ℕ) (tree : Groups) (es : List (Row A)) (content : Content) (held : ℕ)
     (d : Recounted leaves tree es content held) (free : List ℕ) (h : HasSlots slots tree free)
@@ -81,18 +75,11 @@ module _ {A : Type 0} (slots leaves : ℕ) (tree : Groups) (es : List (Row A)) (
   pub there : has_process s from ≡ true
   there = process-is s tree es v d.ordered from ∙ ap is_some found
 
-  pub fork_asks : (child : ℕ) → has_process s child ≡ false → (o : Option ℕ) → o ≡ longest (λ a. full_by leaves content (fin.get tree a)) x.home (length x.home)
-      → refusal slots s (Fork from child) ≡ option_map (λ n. OverPidsMax (take n (home_of s from))) o
+  pub fork_asks : (child : ℕ) → has_process s child ≡ false → (o : Option Path) → o ≡ first_path (is_full_by leaves content tree) (upward x.home)
+      → refusal slots s (Fork from child) ≡ option_map OverPidsMax o
   fork_asks child new o e =
-      let blocked : blocked_fork s (home_of s from) ≡ option_map (λ n. take n (home_of s from)) o =
-      ap (blocked_fork s) home ∙ blocked-is slots leaves tree es content held d free h prefixes s v x.home
-      ∙ ap (option_map (λ n. take n x.home)) (sym e) ∙ ap (λ q. option_map (λ n. take n q) o) (sym home) in
-      rw (there, new, blocked) (twice (home_of s from) o)
-
--- the same state by another name
-pub renamed : (r : Result (Unit {0}) ChargeFault) (new a b : State) → a ≡ b → OnOk r (new ≡ a) → OnOk r (new ≡ b)
-renamed (Ok u) new a b e h = h ∙ e
-renamed (Err f) new a b e h = h
+      let blocked : blocked_fork s (home_of s from) ≡ o = ap (blocked_fork s) home ∙ blocked-is slots leaves tree es content held d free h prefixes s v x.home ∙ sym e in
+      rw (there, new, blocked) refl
 
 -- ---- a process that was made
 

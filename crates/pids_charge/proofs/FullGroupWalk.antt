@@ -14,11 +14,16 @@ use Rattle.group_tree.specs.Flat.{group_of, limit_of}
 use Rattle.group_tree.specs.declared.attr.Attr.{Attr}
 use Rattle.snzi_tokens.specs.Listed.{over_leaves}
 use Rattle.pids_charge.specs.Content.{Content}
-use Rattle.pids_charge.specs.Events.{full_by, longest}
+use Rattle.pids_charge.specs.Events.{full_by, is_full_by}
 use Rattle.pids_charge.specs.Lists.{Row}
 use Rattle.pids_charge.specs.Recount.{Recounted, HasSlots, state_of}
 use Rattle.pids_charge.proofs.PathCharges.{current-is}
 use Rattle.flat_model.proofs.Lists.{reverse_map}
+
+-- the number of names of the longest prefix of 1 to n names that passes the test
+abbrev pub longest : (Path → Bool) → Path → ℕ → Option ℕ
+longest test p zero = None
+longest test p (suc n) = cond (test (take (suc n) p)) (Some (suc n)) (longest test p n)
 
 -- ---- one step of the loop
 pub longest-yes : (full : Path → Bool) (p : Path) (n : ℕ) → full (take (n + 1) p) ≡ true → longest full p (n + 1) ≡ Some (n + 1)
@@ -77,6 +82,12 @@ nonroot : (p : Path) → 0 < length p → is_root p ≡ false
 nonroot [] h = absurd (omega arith)
 nonroot (n ∷ p) h = refl
 
+-- the first path upward that passes, the root apart, is the longest prefix that does
+pub first_full : (full : Path → Bool) (p : Path) → first_path (λ a. not (is_root a) && full a) (upward p) ≡ option_map (λ n. take n p) (longest full p (length p))
+first_full full p =
+    first-upward (λ a. not (is_root a) && full a) p
+    ∙ ap (option_map (λ n. take n p)) (below_root (λ a. not (is_root a) && full a) full p refl (λ a long. ap (λ b. not b && full a) (nonroot a long)) (length p) (omega arith))
+
 asked_as : (leaves : ℕ) (content : Content) (o : Option Attr) (k : ℕ)
     → ((attr : Attr) → o ≡ Some attr → k ≡ over_leaves leaves (content attr.slot))
     → asks (λ attr. exceeds (k + 1) attr.limits.pids) (option_map group_of o) ≡ full_by leaves content o
@@ -95,8 +106,12 @@ module _ {A : Type 0} (slots leaves : ℕ) (tree : Groups) (es : List (Row A)) (
       ∙ asked_as leaves content (fin.get tree a) (current (state_of tree es) a) (λ attr e.
       sym (current-is slots leaves tree es content held d free h prefixes a long (rw e refl)) ∙ ap (λ (o : Option Attr). over_leaves leaves (content (slot_of o))) e)
 
-  pub blocked-is : (p : Path) → blocked_fork s p ≡ option_map (λ n. take n p) (longest (λ a. full_by leaves content (fin.get tree a)) p (length p))
-  blocked-is p = first-upward (is_full s) p ∙ ap (option_map (λ n. take n p)) (below_root (is_full s) (λ a. full_by leaves content (fin.get tree a)) p refl full-is (length p) (omega arith))
+  full_anywhere : (a : Path) → is_full s a ≡ is_full_by leaves content tree a
+  full_anywhere [] = refl
+  full_anywhere (n ∷ p) = full-is (n ∷ p) (omega arith)
+
+  pub blocked-is : (p : Path) → blocked_fork s p ≡ first_path (is_full_by leaves content tree) (upward p)
+  blocked-is p = ap (λ (test : Path → Bool). first_path test (upward p)) (λ i a. full_anywhere a i)
 
 -- a limit by `>=`
 pub at_limit : (n most : ℕ) (b : Bool) → b ≡ not (ltb n most) → b ≡ ltb most (n + 1)

@@ -41,4 +41,3 @@ mod WalkNotes
 mod ForkOutcomes
 mod Removals
 mod Empty
-pub mod MemoryFault

@@ -11,7 +11,7 @@ use Rattle.group_tree.specs.Groups.{Groups, IsClosed, descendant_count, slot_of}
 use Rattle.group_tree.specs.declared.attr.Attr.{Attr}
 use Rattle.pids_charge.specs.declared.group.Group.{Group}
 use Rattle.pids_charge.specs.declared.above.Change.TheVariants.{Raise, Lower}
-use Rattle.pids_charge.specs.GroupRows.{ChangesCounts, HasCounts, HasParents, HasRows, HasTable, IsRowOf, KeepsPaths, attrs_of, below_after, belows_of, in_row, ups_of, with_rows}
+use Rattle.pids_charge.specs.GroupRows.{ChangesCounts, HasCounts, HasParents, HasRows, HasTable, IsRowOf, KeepsPaths, attrs_of, stepped, belows_of, in_row, ups_of, with_rows}
 use Rattle.pids_charge.specs.Lists.{slot_at, row_at}
 use Rattle.pids_charge.proofs.Changes.{which}
 use Rattle.pids_charge.proofs.CountsUp.{left_counts, made_counts}
@@ -119,7 +119,7 @@ module _ (tree : Groups) (rows : List Group) (r : HasRows tree (attrs_of rows)) 
           ∙ get_or-set_at (belows_of long) (y.slot + 1) (row_at m p) 0 0 at (omega (arith, inside, number, length-map long below_of))
 
       pub made_table : (last : List Group) → attrs_of last ≡ attrs_of rows_now → ups_of last ≡ ups_of rows_now
-          → ChangesCounts (below_after Raise) (with_rows new (attrs_of rows_now)) (parent p) (belows_of rows_now) (belows_of last)
+          → ChangesCounts (stepped (2 ^ 32 - 1) Raise) (with_rows new (attrs_of rows_now)) (parent p) (belows_of rows_now) (belows_of last)
           → (paths : List (Option Path)) → KeepsPaths new paths → HasTable new last paths
       made_table last attrs ups changes paths keeps =
           last_table new rows_now last attrs ups has_now parents_now
@@ -176,7 +176,7 @@ module _ (tree : Groups) (rows : List Group) (r : HasRows tree (attrs_of rows)) 
       left_row short = record { has_rows = has_left; has_parents = parents_gone; there = above_there; here = up_now; shallow = short_parent p short }
 
       pub left_table : HasCounts (with_rows tree (attrs_of rows)) (belows_of rows) → (last : List Group) → attrs_of last ≡ attrs_of rows → ups_of last ≡ ups_of rows
-          → ChangesCounts (below_after Lower) (with_rows new (attrs_of rows)) (parent p) (belows_of rows) (belows_of last)
+          → ChangesCounts (stepped (2 ^ 32 - 1) Lower) (with_rows new (attrs_of rows)) (parent p) (belows_of rows) (belows_of last)
           → (paths : List (Option Path)) → KeepsPaths new paths → HasTable new last paths
       left_table counts last attrs ups changes paths keeps =
           last_table new rows last attrs ups has_left parents_gone

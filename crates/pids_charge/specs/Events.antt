@@ -1,8 +1,8 @@
 -- Forks that limits refuse: which group refuses, and which event totals count it.
-use Rattle.std.specs.Prelude.{ℕ, zero, suc, min, ◌+◌, ◌-◌, ◌^◌, ◌<◌, ◌≡◌, Bool, true, false, cond, Option, Some, None, take, option_map, IsSome}
+use Rattle.std.specs.Prelude.{ℕ, ◌+◌, ◌-◌, ◌^◌, ◌<◌, ◌≡◌, ◌&&◌, Bool, true, false, cond, not, Option, Some, None, option_map, IsSome}
 use Rattle.std.specs.FinMap as fin
 use Rattle.std.specs.Ordering.{nat_cmp}
-use Rattle.flat_model.specs.Path.{Path, same_path}
+use Rattle.flat_model.specs.Path.{Path, is_root, same_path}
 use Rattle.flat_model.specs.Mapped.{map_values}
 use Rattle.flat_model.specs.State as flat
 use Rattle.flat_model.specs.State.{State}
@@ -12,8 +12,6 @@ use Rattle.group_tree.specs.Groups.{Groups}
 use Rattle.group_tree.specs.Flat.{group_of, limit_of}
 use Rattle.group_tree.specs.declared.attr.Attr.{Attr}
 use Rattle.snzi_tokens.specs.Listed.{over_leaves}
-use Rattle.pids_charge.specs.declared.above.Change.{Change}
-use Rattle.pids_charge.specs.declared.above.Change.TheVariants.{Raise, Lower}
 use Rattle.pids_charge.specs.Content.{Content}
 
 -- by the meter's content, one more process would exceed the group's `pids.max`
@@ -21,15 +19,9 @@ abbrev pub full_by : ℕ → Content → Option Attr → Bool
 full_by leaves content None = false
 full_by leaves content (Some attr) = exceeds (over_leaves leaves (content attr.slot) + 1) (limit_of attr.limits.pids)
 
--- the number of names of the longest prefix of 1 to n names that passes the test
-abbrev pub longest : (Path → Bool) → Path → ℕ → Option ℕ
-longest test p zero = None
-longest test p (suc n) = cond (test (take (suc n) p)) (Some (suc n)) (longest test p n)
-
--- an event total after a change; the greatest u64 and 0 stay
-abbrev pub stepped : Change → ℕ → ℕ
-stepped Raise n = min (n + 1) (2 ^ 64 - 1)
-stepped Lower n = n - 1
+-- a is not the root, and by the meter's content it is full
+abbrev pub is_full_by : ℕ → Content → Groups → Path → Bool
+is_full_by leaves content tree a = not (is_root a) && full_by leaves content (fin.get tree a)
 
 -- the attributes of q, with g applied to each event total that counts forks refused by a
 abbrev pub counted_by : (ℕ → ℕ) → Path → Path → Attr → Attr

@@ -1,5 +1,5 @@
 -- The rows of groups: their attributes and paths, by the numbers that the tree has in place of slots.
-use Rattle.std.specs.Prelude.{ℕ, min, ◌+◌, ◌-◌, ◌^◌, ◌<◌, ◌≤◌, ◌≡◌, cond, List, length, get_or, Option, Some, None, IsSome, map, option_map}
+use Rattle.std.specs.Prelude.{ℕ, min, ◌+◌, ◌-◌, ◌<◌, ◌≤◌, ◌≡◌, cond, List, length, get_or, Option, Some, None, IsSome, map, option_map}
 use Rattle.std.specs.FinMap as fin
 use Rattle.flat_model.specs.Path.{Path, parent, at_or_below}
 use Rattle.flat_model.specs.Mapped.{map_values}
@@ -80,10 +80,10 @@ pub record IsRow (rows : List Group) (at : ℕ) : Type 0 where
   pub path : Path
   pub is : IsRowOf tree rows path at
 
--- a row's count of groups after a change; the greatest u32 and 0 stay
-abbrev pub below_after : Change → ℕ → ℕ
-below_after Raise n = min (n + 1) (2 ^ 32 - 1)
-below_after Lower n = n - 1
+-- a number of at most `top` after a change; `top` and 0 stay
+abbrev pub stepped : ℕ → Change → ℕ → ℕ
+stepped top Raise n = min (n + 1) top
+stepped top Lower n = n - 1
 
 -- g is applied to the counts in the rows of the group at p and of each group above it, and those of all other groups stay
 abbrev pub ChangesCounts : (ℕ → ℕ) → Groups → Path → List ℕ → List ℕ → Type 0

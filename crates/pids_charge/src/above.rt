@@ -1,10 +1,10 @@
 //! Changes of a group and of the groups above it, from row to row.
 
-ghost use Rattle.std.specs.Prelude.{◌≡◌, ◌-◌, ◌≤◌, length, take, IsSome};
+ghost use Rattle.std.specs.Prelude.{◌≡◌, ◌-◌, ◌^◌, ◌≤◌, length, take, IsSome};
 ghost use Rattle.std.specs.FinMap as fin;
 ghost use Rattle.flat_model.specs.Path.{Path};
-ghost use Rattle.pids_charge.specs.Events.{CountsRefusals, stepped};
-ghost use Rattle.pids_charge.specs.GroupRows.{below_after, IsOfGroup};
+ghost use Rattle.pids_charge.specs.Events.{CountsRefusals};
+ghost use Rattle.pids_charge.specs.GroupRows.{stepped, IsOfGroup};
 ghost use Rattle.pids_charge.specs.Lists.{row_at};
 ghost use Rattle.pids_charge.specs.Peaks.{SetsPeaks};
 
@@ -41,7 +41,7 @@ pub(crate) enum Change {
 impl Change {
     // The greatest total and 0 stay.
     fn of(self, total: u64) -> u64
-        ensures { result ≡ stepped self total }
+        ensures { result ≡ stepped (2 ^ 64 - 1) self total }
     {
         match self {
             Change::Raise => total.saturating_add(1),
@@ -51,7 +51,7 @@ impl Change {
 
     // The greatest number that a row can hold and 0 stay.
     pub(crate) fn of_below(self, below: u32) -> u32
-        ensures { result ≡ below_after self below }
+        ensures { result ≡ stepped (2 ^ 32 - 1) self below }
     {
         match self {
             Change::Raise => below.saturating_add(1),
@@ -68,7 +68,7 @@ pub(crate) fn change_totals<T: Allocator + Clone>(
 )
     requires group { IsOfGroup tree.old row }
     requires shallow { (p : Path) → IsSome (fin.get tree.old p) → length p ≤ 32 }
-    ensures { (p : Path) → IsSome (fin.get tree.old p) → row ≡ row_at tree.old p → CountsRefusals (stepped change) tree.old tree.new p }
+    ensures { (p : Path) → IsSome (fin.get tree.old p) → row ≡ row_at tree.old p → CountsRefusals (stepped (2 ^ 64 - 1) change) tree.old tree.new p }
 {
     tree.known();
     let mut at = row;

@@ -1,15 +1,15 @@
 //! The exit of a process, and its undo.
 
-ghost use Rattle.std.specs.Prelude.{◌≡◌, ◌≢◌, [], None, IsSome, IsOk, IfSome, IfOk, OnErr, OnOk, MatchOption};
+ghost use Rattle.std.specs.Prelude.{◌≡◌, [], None, IsSome, IsOk, IfSome, IfOk, OnErr, OnOk, option_map};
 ghost use Rattle.std.specs.FinMap as fin;
 ghost use Rattle.flat_model.specs.Command.{Exit};
-ghost use Rattle.flat_model.specs.Step.{home_of, refusal};
+ghost use Rattle.flat_model.specs.Step.{after_refusal, home_of, refusal};
 ghost use Rattle.flat_model.specs.Inverse.{back, Exited};
 ghost use Rattle.flat_model.specs.Path.{Path};
-ghost use Rattle.pids_charge.specs.Answers.{Does, refusal_of_fault, after_fault, names_in};
+ghost use Rattle.pids_charge.specs.Answers.{Decides, names_in, refusal_along};
 
 use crate::charges::Charges;
-use crate::fault::ChargeFault;
+use crate::fault::ChargeRefusal;
 use crate::meter::Meter;
 use crate::pid::Pid;
 use crate::row::row_in;
@@ -19,16 +19,15 @@ use group_path::GroupPath;
 use std::alloc::{AllocError, Allocator};
 
 impl<A: Allocator + Clone, M: Meter> Charges<A, M> {
-    /// The refusal that `exit` would return. It names no group. It is also that of a read of the process's group. Takes
+    /// The refusal that `take_process` would return. It names no group. It is also that of a read of the process's group. Takes
     /// constant time.
-    pub fn refuses_exit(&self, pid: Pid) -> Option<ChargeFault>
-        ensures first { MatchOption result (refusal M.SLOTS self.now (Exit pid) ≡ None) (λ f. (p : Path) → refusal M.SLOTS self.now (Exit pid) ≡ refusal_of_fault p f) }
-        ensures inside { IfSome result (λ f. names_in f ≡ 0) }
-        ensures no_memory { IfSome result (λ f. f ≢ ChargeFault.OutOfMemory) }
-        ensures kept { IfSome result (λ f. (p : Path) → after_fault self.now (refusal_of_fault p f) ≡ self.now) }
+    pub fn refuses_exit(&self, pid: Pid) -> Option<ChargeRefusal>
+        ensures first { (p : Path) → refusal M.SLOTS self.now (Exit pid) ≡ option_map (refusal_along p) result }
+        ensures inside { IfSome result (λ r. names_in r ≡ 0) }
+        ensures kept { IfSome result (λ r. (p : Path) → after_refusal self.now (refusal_along p r) ≡ self.now) }
     {
         if !has_row(&self.processes, pid) {
-            return Some(ChargeFault::NoProcess(pid));
+            return Some(ChargeRefusal::NoProcess(pid));
         }
         None
     }
@@ -39,13 +38,13 @@ impl<A: Allocator + Clone, M: Meter> Charges<A, M> {
     /// # Errors
     ///
     /// `NoProcess`; nothing has changed then.
-    pub fn exit(&mut self, who: u8, pid: Pid) -> Result<GroupPath<A>, ChargeFault>
-        ensures state { Does M.SLOTS self.old (Exit pid) [] result self.new }
+    pub fn take_process(&mut self, who: u8, pid: Pid) -> Result<GroupPath<A>, ChargeRefusal>
+        ensures state { Decides M.SLOTS self.old (Exit pid) [] result self.new }
         ensures old_home { IfOk result (λ home. home ≡ home_of self.old pid) }
         ensures certain { refusal M.SLOTS self.old (Exit pid) ≡ None → IsOk result }
     {
         let Some(process) = take_row(&mut self.processes, pid) else {
-            return Err(ChargeFault::NoProcess(pid));
+            return Err(ChargeRefusal::NoProcess(pid));
         };
         let stripe = who % M::LEAVES;
         uncharge_up(&self.tree, &mut self.meter, &process, stripe);

@@ -1,6 +1,6 @@
 //! The groups: their names in a tree, and their attributes in rows.
 
-ghost use Rattle.std.specs.Prelude.{◌≡◌, ◌≢◌, ◌<◌, ◌≤◌, ◌+◌, ◌^◌, ℕ, true, length, take, get_or, None, Some, MatchOption, IfOk, OnOk, OnErr, IsSome};
+ghost use Rattle.std.specs.Prelude.{◌≡◌, ◌≢◌, ◌<◌, ◌≤◌, ◌+◌, ◌^◌, ℕ, true, length, take, get_or, None, Some, MatchOption, IfOk, OnOk, OnErr, IsSome, ◌-◌};
 ghost use Rattle.std.specs.Option.{option_copied};
 ghost use Rattle.std.specs.FinMap as fin;
 ghost use Rattle.flat_model.specs.Path.{Path, parent, at_or_below};
@@ -9,7 +9,7 @@ ghost use Rattle.group_tree.specs.Flat.{CountsAsFlat};
 ghost use Rattle.group_tree.specs.Groups.{Groups, IsClosed, Removes, only_root, descendant_count};
 ghost use Rattle.group_tree.specs.declared.attr.Attr.{Attr};
 ghost use Rattle.pids_charge.specs.declared.group.Group.{Group};
-ghost use Rattle.pids_charge.specs.GroupRows.{ChangesCounts, IsOfGroup, IsRow, IsRowOf, attrs_of, below_after, belows_of, ups_of, with_rows};
+ghost use Rattle.pids_charge.specs.GroupRows.{ChangesCounts, IsOfGroup, IsRow, IsRowOf, attrs_of, stepped, belows_of, ups_of, with_rows};
 ghost use Rattle.pids_charge.specs.Lists.{slot_at, row_at};
 
 use crate::above::Change;
@@ -42,7 +42,7 @@ fn change_below<A: Allocator>(rows: &mut Vec<Group, A>, first: u16, change: Chan
     requires { IsRow rows.old.items first }
     ensures attrs { attrs_of rows.new.items ≡ attrs_of rows.old.items }
     ensures ups { ups_of rows.new.items ≡ ups_of rows.old.items }
-    ensures below { (tree : Groups) (p : Path) → IsRowOf tree rows.old.items p first → ChangesCounts (below_after change) (with_rows tree (attrs_of rows.old.items)) p (belows_of rows.old.items) (belows_of rows.new.items) }
+    ensures below { (tree : Groups) (p : Path) → IsRowOf tree rows.old.items p first → ChangesCounts (stepped (2 ^ 32 - 1) change) (with_rows tree (attrs_of rows.old.items)) p (belows_of rows.old.items) (belows_of rows.new.items) }
 {
     let mut at = usize::from(first);
     for _up in 0..DEPTH_MAX + 1 {

@@ -1,6 +1,6 @@
 //! Killing all processes of a group.
 
-ghost use Rattle.std.specs.Prelude.{◌≡◌, ◌≢◌, ℕ, ◌+◌, ◌≤◌, ◌++◌, [], None, IsSome, IfSome, IfOk, OnOk, OnErr, MatchOption, length};
+ghost use Rattle.std.specs.Prelude.{◌≡◌, ℕ, ◌+◌, ◌≤◌, ◌++◌, [], None, IsSome, IfSome, IfOk, OnOk, OnErr, length, option_map};
 ghost use Rattle.std.specs.List.{All, sum_by};
 ghost use Rattle.std.specs.List.Sorted.{IsStrictlySortedBy};
 ghost use Rattle.std.specs.Ordering.{nat_cmp};
@@ -12,14 +12,14 @@ ghost use Rattle.flat_model.specs.Command.{Kill};
 ghost use Rattle.flat_model.specs.CommandText.{IsPid};
 ghost use Rattle.flat_model.specs.Inverse as inverse;
 ghost use Rattle.flat_model.specs.Path.{Path};
-ghost use Rattle.flat_model.specs.Step.{after, refusal};
-ghost use Rattle.pids_charge.specs.Answers.{refusal_of_fault, after_fault, names_in};
+ghost use Rattle.flat_model.specs.Step.{after, after_refusal, refusal};
+ghost use Rattle.pids_charge.specs.Answers.{names_in, refusal_along};
 ghost use Rattle.snzi_tokens.specs.Listed.{IsWithin, listed_at};
 ghost use Rattle.pids_charge.specs.Lists.{inside, lost_each, lost_one, without_each};
 ghost use Rattle.pids_charge.specs.Recount.{charges_of, IsPlaced, SlotsBelow};
 
 use crate::charges::Charges;
-use crate::fault::ChargeFault;
+use crate::fault::ChargeRefusal;
 use crate::groups::GroupTable;
 use crate::inside::pids_inside;
 use crate::lost::{Lost, LostList};
@@ -121,17 +121,16 @@ fn leave<A: Allocator + Clone>(
 
 impl<A: Allocator + Clone, M: Meter> Charges<A, M> {
     /// The refusal that `kill` would return, apart from memory. Costs at most one descent of the tree.
-    pub fn refuses_kill<B: Allocator + Clone>(&self, path: &GroupPath<B>) -> Option<ChargeFault>
-        ensures first { MatchOption result (refusal M.SLOTS self.now (Kill path.now) ≡ None) (λ f. refusal M.SLOTS self.now (Kill path.now) ≡ refusal_of_fault path.now f) }
-        ensures inside { IfSome result (λ f. names_in f ≤ length path.now) }
-        ensures no_memory { IfSome result (λ f. f ≢ ChargeFault.OutOfMemory) }
-        ensures kept { IfSome result (λ f. after_fault self.now (refusal_of_fault path.now f) ≡ self.now) }
+    pub fn refuses_kill<B: Allocator + Clone>(&self, path: &GroupPath<B>) -> Option<ChargeRefusal>
+        ensures first { refusal M.SLOTS self.now (Kill path.now) ≡ option_map (refusal_along path.now) result }
+        ensures inside { IfSome result (λ r. names_in r ≤ length path.now) }
+        ensures kept { IfSome result (λ r. after_refusal self.now (refusal_along path.now r) ≡ self.now) }
     {
         if path.depth() == 0 {
-            return Some(ChargeFault::NoFile);
+            return Some(ChargeRefusal::NoFile);
         }
         if self.tree.find(path).is_none() {
-            return Some(ChargeFault::NoGroup(path.depth()));
+            return Some(ChargeRefusal::NoGroup(path.depth()));
         }
         None
     }

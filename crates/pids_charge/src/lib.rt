@@ -18,12 +18,12 @@
 //! - For each command one call only decides: `refuses_mkdir`, `refuses_rmdir`, `refuses_fork`, `refuses_exit`,
 //!   `refuses_move`, `refuses_limit` and `refuses_kill` return its first refusal, if there is one, and allocate nothing.
 //!   `refuses_pids` is the part of `refuses_fork` that looks at no limit. `make_group`, `take_group` and `take_processes` only
-//!   do what was decided. They are for a caller that allocates something of its own in between. `fork_or_count` and
-//!   `move_process` decide and act in one look-up, and return the paths that a caller records.
-//! - A call that can only run out of memory returns `AllocError`. A call that also decides a refusal returns a `ChargeFault`,
-//!   where out of memory is one of the faults. `src/specified.rt` has the calls that only the specification names.
-//! - `exit`, `unfork`, `set_peaks`, `count_fork`, `uncount`, `rmdir`, `set_limit`, the readers and the calls that only
-//!   decide allocate nothing. `new` allocates the tables of free slots and of hints. Rows, and the paths that they
+//!   do what was decided. They are for a caller that allocates something of its own in between. `fork_or_count`,
+//!   `take_process`, `move_process` and `replace_limit` decide and act in one look-up, and return what a caller records.
+//! - A call that can only run out of memory returns `AllocError`. What decides returns a `ChargeRefusal`, which is never out of
+//!   memory. `src/specified.rt` has the calls that only the specification names: a `ChargeFault` is a refusal or out of memory.
+//! - `take_process`, `unfork`, `set_peaks`, `count_fork`, `uncount`, `take_group`, `replace_limit`, the readers and the calls that
+//!   only decide allocate nothing. `new` allocates the tables of free slots and of hints. Rows, and the paths that they
 //!   keep, are allocated as groups are made. The list of old peaks of a fork or a move takes memory only if it has more than
 //!   `INLINE_PEAKS`, or one of 2^32 or more.
 //! - The tree has the names of the groups, and a row for each has its attributes and how many groups are below it. A process
@@ -86,12 +86,12 @@ mod specified;
 mod walk;
 
 pub use charges::Charges;
-pub use fault::ChargeFault;
+pub use fault::{ChargeFault, ChargeRefusal};
 pub use fork::ForkOutcome;
 pub use gate::{Gate, OpenGate};
 pub use lost::{Lost, LostList};
 pub use meter::{HELD_MAX, Meter};
-pub use migrate::{Migrated, Shifted};
+pub use migrate::{MoveOutcome, Shifted};
 pub use parts::{last_run, part_count};
 pub use peaks::{INLINE_PEAKS, Peaks};
 pub use pid::{PID_MAX, Pid};

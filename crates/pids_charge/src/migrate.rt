@@ -1,18 +1,18 @@
 //! Moving processes, and undoing a move.
 
-ghost use Rattle.std.specs.Prelude.{◌≡◌, ◌≢◌, ◌≤◌, true, length, None, IsSome, IfSome, IfOk, IfErr, OnOk, OnErr, MatchOption};
+ghost use Rattle.std.specs.Prelude.{◌≡◌, ◌≤◌, true, length, None, Some, IsSome, IfSome, IfOk, IfErr, OnOk, OnErr, option_map};
 ghost use Rattle.std.specs.FinMap as fin;
 ghost use Rattle.flat_model.specs.Command.{Move};
 ghost use Rattle.flat_model.specs.Counts.{has_process};
 ghost use Rattle.flat_model.specs.Inverse.{back, Moved};
 ghost use Rattle.flat_model.specs.State.{State};
-ghost use Rattle.flat_model.specs.Step.{home_of, peaks_upward, refusal};
-ghost use Rattle.pids_charge.specs.Answers.{Does, refusal_of_fault, after_fault, names_in};
+ghost use Rattle.flat_model.specs.Step.{after_refusal, home_of, refusal};
+ghost use Rattle.pids_charge.specs.Answers.{MovesTo, names_in, refusal_along};
 ghost use Rattle.pids_charge.specs.Lists.{row_at};
 ghost use Rattle.pids_charge.specs.Recount.{state_of};
 
 use crate::charges::Charges;
-use crate::fault::ChargeFault;
+use crate::fault::ChargeRefusal;
 use crate::groups::GroupTable;
 use crate::meter::Meter;
 use crate::notes::note_up;
@@ -32,13 +32,18 @@ pub struct Shifted<A: Allocator + Clone> {
     pub peaks: Peaks<A>,
 }
 
-/// What a move leaves behind, and the new path of the process, in the allocator of the charges.
+/// What becomes of a move.
 #[derive(Drop)]
-pub struct Migrated<A: Allocator + Clone> {
-    /// The group that it moved to. A long text is shared with the process.
-    pub to: GroupPath<A>,
-    /// What it left.
-    pub left: Shifted<A>,
+pub enum MoveOutcome<A: Allocator + Clone> {
+    /// The process was moved.
+    Moved {
+        /// The group that it moved to, in the allocator of the charges. A long text is shared with the process.
+        to: GroupPath<A>,
+        /// What it left.
+        left: Shifted<A>,
+    },
+    /// There is no such group, or no such process. Nothing has changed.
+    Refused(ChargeRefusal),
 }
 
 // The row of the group, if the process may move there. Else the refusal.
@@ -47,20 +52,19 @@ fn row_for<M: Meter, T: Allocator + Clone, A: Allocator + Clone, B: Allocator + 
     processes: &ProcessTable<A>,
     path: &GroupPath<B>,
     pid: Pid,
-) -> Result<u16, ChargeFault>
+) -> Result<u16, ChargeRefusal>
     ensures allowed { OnOk result (refusal M.SLOTS (state_of tree.now processes.now) (Move path.now pid) ≡ None) }
     ensures row { IfOk result (λ row. IsSome (fin.get tree.now path.now) × (row ≡ row_at tree.now path.now)) }
-    ensures first { IfErr result (λ f. refusal M.SLOTS (state_of tree.now processes.now) (Move path.now pid) ≡ refusal_of_fault path.now f) }
-    ensures inside { IfErr result (λ f. names_in f ≤ length path.now) }
-    ensures no_memory { IfErr result (λ f. f ≢ ChargeFault.OutOfMemory) }
-    ensures kept { IfErr result (λ f. (s : State) → after_fault s (refusal_of_fault path.now f) ≡ s) }
+    ensures first { IfErr result (λ r. refusal M.SLOTS (state_of tree.now processes.now) (Move path.now pid) ≡ Some (refusal_along path.now r)) }
+    ensures inside { IfErr result (λ r. names_in r ≤ length path.now) }
+    ensures kept { IfErr result (λ r. (s : State) → after_refusal s (refusal_along path.now r) ≡ s) }
 {
     processes.known();
     let Some(row) = tree.find_row(path) else {
-        return Err(ChargeFault::NoGroup(path.depth()));
+        return Err(ChargeRefusal::NoGroup(path.depth()));
     };
     if !has_row(processes, pid) {
-        return Err(ChargeFault::NoProcess(pid));
+        return Err(ChargeRefusal::NoProcess(pid));
     }
     Ok(row)
 }
@@ -71,39 +75,39 @@ impl<A: Allocator + Clone, M: Meter> Charges<A, M> {
         &self,
         path: &GroupPath<B>,
         pid: Pid,
-    ) -> Option<ChargeFault>
-        ensures first { MatchOption result (refusal M.SLOTS self.now (Move path.now pid) ≡ None) (λ f. refusal M.SLOTS self.now (Move path.now pid) ≡ refusal_of_fault path.now f) }
-        ensures inside { IfSome result (λ f. names_in f ≤ length path.now) }
-        ensures no_memory { IfSome result (λ f. f ≢ ChargeFault.OutOfMemory) }
-        ensures kept { IfSome result (λ f. after_fault self.now (refusal_of_fault path.now f) ≡ self.now) }
+    ) -> Option<ChargeRefusal>
+        ensures first { refusal M.SLOTS self.now (Move path.now pid) ≡ option_map (refusal_along path.now) result }
+        ensures inside { IfSome result (λ r. names_in r ≤ length path.now) }
+        ensures kept { IfSome result (λ r. after_refusal self.now (refusal_along path.now r) ≡ self.now) }
     {
         match row_for::<M, _, _, _>(&self.tree, &self.processes, path, pid) {
             Ok(_) => None,
-            Err(fault) => Some(fault),
+            Err(refusal) => Some(refusal),
         }
     }
 
     /// Moves a process to the group, where it is charged at the leaf of `who`, and then raises the peaks of the group and of
     /// those above it other than the root. Returns its old group, by the path that the table had, the old peaks of the groups
-    /// along the new path, and that path. Tests no limit. Costs at most one descent of the tree.
+    /// along the new path, and that path. Tests no limit. The first refusal that applies is `NoGroup` or `NoProcess`. Costs at
+    /// most one descent of the tree.
     ///
     /// # Errors
     ///
-    /// The first of these that applies: `NoGroup`, `NoProcess`, `OutOfMemory`. Nothing has changed then.
+    /// `AllocError`; nothing has changed then.
     pub fn move_process<B: Allocator + Clone>(
         &mut self,
         who: u8,
         pid: Pid,
         path: &GroupPath<B>,
-    ) -> Result<Migrated<A>, ChargeFault>
-        ensures state { Does M.SLOTS self.old (Move path.now pid) path.now result self.new }
-        ensures inside { IfErr result (λ f. names_in f ≤ length path.now) }
-        ensures new_home { IfOk result (λ moved. moved.to ≡ path.now) }
-        ensures old_home { IfOk result (λ moved. moved.left.path ≡ home_of self.old pid) }
-        ensures peaks { IfOk result (λ moved. moved.left.peaks ≡ peaks_upward self.old path.now) }
+    ) -> Result<MoveOutcome<A>, AllocError>
+        ensures moved { IfOk result (λ moved. MovesTo M.SLOTS self.old pid path.now moved self.new) }
+        ensures ready { OnErr result (refusal M.SLOTS self.old (Move path.now pid) ≡ None) }
         ensures kept { OnErr result (self.new ≡ self.old) }
     {
-        let row = row_for::<M, _, _, _>(&self.tree, &self.processes, path, pid)?;
+        let row = match row_for::<M, _, _, _>(&self.tree, &self.processes, path, pid) {
+            Ok(row) => row,
+            Err(refusal) => return Ok(MoveOutcome::Refused(refusal)),
+        };
         let notes = note_up(&self.tree, row);
         let peaks = Peaks::copy_of(&self.alloc, notes.peaks())?;
         self.tree.known();
@@ -119,7 +123,7 @@ impl<A: Allocator + Clone, M: Meter> Charges<A, M> {
             path: before.home,
             peaks,
         };
-        Ok(Migrated { to, left })
+        Ok(MoveOutcome::Moved { to, left })
     }
 
     /// Undoes a move: puts the process into its old group, charged at the leaf of `who`, and sets the peaks of the group that

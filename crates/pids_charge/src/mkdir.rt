@@ -1,13 +1,13 @@
 //! Making groups.
 
-ghost use Rattle.std.specs.Prelude.{◌≡◌, ◌≢◌, ◌≤◌, length, None, IfSome, OnErr, OnOk, MatchOption};
+ghost use Rattle.std.specs.Prelude.{◌≡◌, ◌≤◌, length, None, IfSome, OnErr, OnOk, option_map};
 ghost use Rattle.flat_model.specs.Command.{MakeGroup};
-ghost use Rattle.flat_model.specs.Step.{refusal, after};
-ghost use Rattle.pids_charge.specs.Answers.{refusal_of_fault, after_fault, names_in};
+ghost use Rattle.flat_model.specs.Step.{after, after_refusal, refusal};
+ghost use Rattle.pids_charge.specs.Answers.{names_in, refusal_along};
 
 use crate::charges::Charges;
-use crate::fault::ChargeFault;
-use crate::hierarchy::{MetLimit, first_met};
+use crate::fault::ChargeRefusal;
+use crate::hierarchy::first_met;
 use crate::meter::Meter;
 use group_path::GroupPath;
 use group_tree::Attr;
@@ -16,26 +16,26 @@ use std::alloc::{AllocError, Allocator};
 impl<A: Allocator + Clone, M: Meter> Charges<A, M> {
     /// The refusal that `mkdir` would return, apart from memory. Costs at most two descents of the tree, and a step for each group
     /// above.
-    pub fn refuses_mkdir<B: Allocator + Clone>(&self, path: &GroupPath<B>) -> Option<ChargeFault>
-        ensures first { MatchOption result (refusal M.SLOTS self.now (MakeGroup path.now) ≡ None) (λ f. refusal M.SLOTS self.now (MakeGroup path.now) ≡ refusal_of_fault path.now f) }
-        ensures inside { IfSome result (λ f. names_in f ≤ length path.now) }
-        ensures no_memory { IfSome result (λ f. f ≢ ChargeFault.OutOfMemory) }
-        ensures kept { IfSome result (λ f. after_fault self.now (refusal_of_fault path.now f) ≡ self.now) }
+    pub fn refuses_mkdir<B: Allocator + Clone>(&self, path: &GroupPath<B>) -> Option<ChargeRefusal>
+        ensures first { refusal M.SLOTS self.now (MakeGroup path.now) ≡ option_map (refusal_along path.now) result }
+        ensures inside { IfSome result (λ r. names_in r ≤ length path.now) }
+        ensures kept { IfSome result (λ r. after_refusal self.now (refusal_along path.now r) ≡ self.now) }
     {
         self.tree.known();
         if self.tree.find_row(path).is_some() {
-            return Some(ChargeFault::Exists);
+            return Some(ChargeRefusal::Exists);
         }
         let n = path.depth().saturating_sub(1);
         let Some(above) = self.tree.find_row_at(path, n) else {
-            return Some(ChargeFault::NoGroup(n));
+            return Some(ChargeRefusal::NoGroup(n));
         };
-        match first_met(&self.tree, above, n) {
-            Some(MetLimit::Descendants(n)) => Some(ChargeFault::Descendants(n)),
-            Some(MetLimit::Depth(n)) => Some(ChargeFault::Depth(n)),
-            None if self.free.is_empty() => Some(ChargeFault::NoSlot),
-            None => None,
+        if let Some(met) = first_met(&self.tree, above, n) {
+            return Some(met);
         }
+        if self.free.is_empty() {
+            return Some(ChargeRefusal::NoSlot);
+        }
+        None
     }
 
     /// Makes a group that `mkdir` would not refuse, with no limits and event totals of 0, on a free slot. Costs two descents

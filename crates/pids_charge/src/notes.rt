@@ -2,8 +2,9 @@
 
 ghost use Rattle.std.specs.Prelude.{◌≡◌, ◌<◌, ◌≤◌, ◌++◌, ◌∷◌, [], length, option_map, take, IfSome, IsSome, Some};
 ghost use Rattle.std.specs.FinMap as fin;
-ghost use Rattle.flat_model.specs.Path.{Path};
-ghost use Rattle.pids_charge.specs.Events.{full_by, longest};
+ghost use Rattle.flat_model.specs.Path.{Path, upward};
+ghost use Rattle.flat_model.specs.Counts.{first_path};
+ghost use Rattle.pids_charge.specs.Events.{full_by, is_full_by};
 ghost use Rattle.pids_charge.specs.GroupRows.{IsOfGroup};
 ghost use Rattle.pids_charge.specs.Lists.{row_at};
 ghost use Rattle.pids_charge.specs.Peaks.{IsNoted, Noted};
@@ -107,7 +108,7 @@ pub(crate) fn nearest_full<T: Allocator + Clone, M: Meter, A: Allocator + Clone>
     requires home { IsSome (fin.get tree.now path.now) }
     requires row { row ≡ row_at tree.now path.now }
     requires slots { SlotsBelow M.SLOTS tree.now }
-    ensures answer { option_map (λ full. full.names) result ≡ longest (λ a. full_by M.LEAVES (M.content meter.old) (fin.get tree.now a)) path.now (length path.now) }
+    ensures answer { option_map (λ full. take full.names path.now) result ≡ first_path (is_full_by M.LEAVES (M.content meter.old) tree.now) (upward path.now) }
     ensures row { IfSome result (λ full. full.row ≡ row_at tree.now (take full.names path.now)) }
     ensures inside { IfSome result (λ full. (0 < full.names) × (full.names ≤ length path.now)) }
     ensures content { M.content meter.new ≡ M.content meter.old }

@@ -1,16 +1,16 @@
 //! Removing groups, and undoing a removal.
 
-ghost use Rattle.std.specs.Prelude.{◌≡◌, ◌≢◌, ◌≤◌, length, Some, None, IsSome, IfSome, OnErr, OnOk, MatchOption};
+ghost use Rattle.std.specs.Prelude.{◌≡◌, ◌≤◌, length, Some, None, IsSome, IfSome, OnErr, OnOk, option_map};
 ghost use Rattle.std.specs.FinMap as fin;
 ghost use Rattle.flat_model.specs.Path.{parent};
 ghost use Rattle.flat_model.specs.Command.{RemoveGroup};
-ghost use Rattle.flat_model.specs.Step.{refusal, after};
+ghost use Rattle.flat_model.specs.Step.{after, after_refusal, refusal};
 ghost use Rattle.flat_model.specs.Inverse.{back, Removed};
 ghost use Rattle.group_tree.specs.Flat.{group_of};
-ghost use Rattle.pids_charge.specs.Answers.{refusal_of_fault, after_fault, names_in};
+ghost use Rattle.pids_charge.specs.Answers.{names_in, refusal_along};
 
 use crate::charges::Charges;
-use crate::fault::ChargeFault;
+use crate::fault::ChargeRefusal;
 use crate::meter::Meter;
 use crate::row::row_above;
 use group_path::GroupPath;
@@ -22,27 +22,26 @@ impl<A: Allocator + Clone, M: Meter> Charges<A, M> {
     pub fn refuses_rmdir<B: Allocator + Clone>(
         &mut self,
         path: &GroupPath<B>,
-    ) -> Option<ChargeFault>
-        ensures first { MatchOption result (refusal M.SLOTS self.old (RemoveGroup path.now) ≡ None) (λ f. refusal M.SLOTS self.old (RemoveGroup path.now) ≡ refusal_of_fault path.now f) }
-        ensures inside { IfSome result (λ f. names_in f ≤ length path.now) }
-        ensures no_memory { IfSome result (λ f. f ≢ ChargeFault.OutOfMemory) }
-        ensures unchanged { IfSome result (λ f. after_fault self.old (refusal_of_fault path.now f) ≡ self.old) }
+    ) -> Option<ChargeRefusal>
+        ensures first { refusal M.SLOTS self.old (RemoveGroup path.now) ≡ option_map (refusal_along path.now) result }
+        ensures inside { IfSome result (λ r. names_in r ≤ length path.now) }
+        ensures unchanged { IfSome result (λ r. after_refusal self.old (refusal_along path.now r) ≡ self.old) }
         ensures kept { self.new ≡ self.old }
     {
         let depth = path.depth();
         if depth == 0 {
-            return Some(ChargeFault::RootFixed);
+            return Some(ChargeRefusal::RootFixed);
         }
         self.tree.known();
         let Some(at) = self.tree.find_row(path) else {
-            return Some(ChargeFault::NoGroup(depth));
+            return Some(ChargeRefusal::NoGroup(depth));
         };
         if self.tree.below(at) > 0 {
-            return Some(ChargeFault::HasChildren);
+            return Some(ChargeRefusal::HasChildren);
         }
         let slot = self.tree.row(at).slot;
         if self.meter.populated(slot) {
-            return Some(ChargeFault::HasProcesses);
+            return Some(ChargeRefusal::HasProcesses);
         }
         None
     }

@@ -1,36 +1,36 @@
 //! The calls on charges that the specification names and no program of this repository makes: each decides and acts in one
 //! call, or has one error for memory and refusals. The engine makes the calls that they are made of.
 
-ghost use Rattle.std.specs.Prelude.{◌≡◌, true, ◌<◌, ◌≤◌, ℕ, length, eqb, map, take, IsOk, None, Some, IsSome, IfOk, IfErr, OnErr, OnOk};
+ghost use Rattle.std.specs.Prelude.{◌≡◌, true, ◌<◌, ◌≤◌, ◌&&◌, ℕ, [], length, eqb, map, take, IsOk, None, Some, IsSome, IfOk, IfErr, IfSome, OnErr, OnOk};
 ghost use Rattle.std.specs.FinMap as fin;
 ghost use Rattle.std.specs.List.{All, IsDistinct};
 ghost use Rattle.flat_model.specs.Counts.{has_process};
 ghost use Rattle.flat_model.specs.Path.{parent};
-ghost use Rattle.flat_model.specs.Command.{MakeGroup, RemoveGroup, Fork, Move, Kill, OverPidsMax};
+ghost use Rattle.flat_model.specs.Command.{MakeGroup, RemoveGroup, Fork, Exit, Move, SetLimit, Kill, OverPidsMax};
 ghost use Rattle.flat_model.specs.Inverse as inverse;
 ghost use Rattle.flat_model.specs.Inverse.{back, Removed, Exited, Killed};
-ghost use Rattle.flat_model.specs.Step.{after_refusal, home_of, peaks_upward, refusal};
+ghost use Rattle.flat_model.specs.Step.{after_refusal, attr_of, home_of, limit_at, peaks_upward, refusal};
 ghost use Rattle.flat_model.specs.Step as flat;
-ghost use Rattle.group_tree.specs.Flat.{group_of};
-ghost use Rattle.pids_charge.specs.Answers.{Does, names_in};
+ghost use Rattle.group_tree.specs.Flat.{group_of, limit_file_of, limit_of};
+ghost use Rattle.pids_charge.specs.Answers.{Does, names_in, refusal_in};
 ghost use Rattle.pids_charge.specs.Events.{HasRoomForEvents};
 ghost use Rattle.pids_charge.specs.Lists.{rows_of, row_at};
 
 use crate::above::{Change, change_totals, row_up, set_peaks_up};
 use crate::charges::Charges;
-use crate::fault::ChargeFault;
+use crate::fault::{ChargeFault, ChargeRefusal};
 use crate::fork::ForkOutcome;
 use crate::gate::Gate;
 use crate::groups::GroupTable;
 use crate::lost::{Lost, LostList};
 use crate::meter::Meter;
-use crate::migrate::Shifted;
+use crate::migrate::{MoveOutcome, Shifted};
 use crate::peaks::Peaks;
 use crate::pid::Pid;
 use crate::rows::find_row;
 use crate::settler::{Settler, with_threads};
 use group_path::GroupPath;
-use group_tree::Attr;
+use group_tree::{Attr, Limit, LimitFile};
 use std::alloc::Allocator;
 use std::sync::Wait;
 use std::thread::Threads;
@@ -67,10 +67,10 @@ impl<A: Allocator + Clone, M: Meter> Charges<A, M> {
     /// the parent upward whose limit is met; `NoSlot`; `OutOfMemory`. Nothing has changed then.
     pub fn mkdir<B: Allocator + Clone>(&mut self, path: &GroupPath<B>) -> Result<(), ChargeFault>
         ensures state { Does M.SLOTS self.old (MakeGroup path.now) path.now result self.new }
-        ensures inside { IfErr result (λ f. names_in f ≤ length path.now) }
+        ensures inside { IfErr result (λ f. IfSome (refusal_in f) (λ r. names_in r ≤ length path.now)) }
     {
-        if let Some(fault) = self.refuses_mkdir(path) {
-            return Err(fault);
+        if let Some(refusal) = self.refuses_mkdir(path) {
+            return Err(ChargeFault::from(refusal));
         }
         Ok(self.make_group(path)?)
     }
@@ -83,12 +83,12 @@ impl<A: Allocator + Clone, M: Meter> Charges<A, M> {
     /// The first of these that applies: `RootFixed`, `NoGroup`, `HasChildren`, `HasProcesses`. Nothing has changed then.
     pub fn rmdir<B: Allocator + Clone>(&mut self, path: &GroupPath<B>) -> Result<Attr, ChargeFault>
         ensures state { Does M.SLOTS self.old (RemoveGroup path.now) path.now result self.new }
-        ensures inside { IfErr result (λ f. names_in f ≤ length path.now) }
+        ensures inside { IfErr result (λ f. IfSome (refusal_in f) (λ r. names_in r ≤ length path.now)) }
         ensures attr { IfOk result (λ attr. Some (group_of attr) ≡ fin.get self.old.groups path.now) }
         ensures certain { refusal M.SLOTS self.old (RemoveGroup path.now) ≡ None → IsOk result }
     {
-        if let Some(fault) = self.refuses_rmdir(path) {
-            return Err(fault);
+        if let Some(refusal) = self.refuses_rmdir(path) {
+            return Err(ChargeFault::from(refusal));
         }
         Ok(self.take_group(path))
     }
@@ -127,26 +127,59 @@ impl<A: Allocator + Clone, M: Meter> Charges<A, M> {
     pub fn fork(&mut self, who: u8, parent: Pid, child: Pid) -> Result<Peaks<A>, ChargeFault>
         requires { HasRoomForEvents self.old }
         ensures state { Does M.SLOTS self.old (Fork parent child) (home_of self.old parent) result self.new }
-        ensures inside { IfErr result (λ f. names_in f ≤ length (home_of self.old parent)) }
+        ensures inside { IfErr result (λ f. IfSome (refusal_in f) (λ r. names_in r ≤ length (home_of self.old parent))) }
         ensures peaks { IfOk result (λ peaks. peaks ≡ peaks_upward self.old (home_of self.old parent)) }
     {
-        if let Some(fault) = self.refuses_fork(parent, child) {
-            if let ChargeFault::PidsMax(n) = fault {
+        if let Some(refusal) = self.refuses_fork(parent, child) {
+            if let ChargeRefusal::PidsMax(n) = refusal {
                 self.count_fork(parent, n);
             }
-            return Err(fault);
+            return Err(ChargeFault::from(refusal));
         }
         match self.fork_or_count(who, parent, child, true)? {
             ForkOutcome::Made(peaks) => Ok(peaks),
             ForkOutcome::Counted { .. } => unreachable!(),
+            ForkOutcome::Refused(_) => unreachable!(),
         }
+    }
+
+    /// `take_process`.
+    ///
+    /// # Errors
+    ///
+    /// `NoProcess`; nothing has changed then.
+    pub fn exit(&mut self, who: u8, pid: Pid) -> Result<GroupPath<A>, ChargeFault>
+        ensures state { Does M.SLOTS self.old (Exit pid) [] result self.new }
+        ensures old_home { IfOk result (λ home. home ≡ home_of self.old pid) }
+        ensures certain { refusal M.SLOTS self.old (Exit pid) ≡ None → IsOk result }
+    {
+        Ok(self.take_process(who, pid)?)
+    }
+
+    /// `replace_limit`.
+    ///
+    /// # Errors
+    ///
+    /// `NoFile` for the `pids.max` of the root, then `NoGroup`. Nothing has changed then.
+    pub fn set_limit<B: Allocator + Clone>(
+        &mut self,
+        path: &GroupPath<B>,
+        file: LimitFile,
+        limit: Limit,
+    ) -> Result<Limit, ChargeFault>
+        ensures state { Does M.SLOTS self.old (SetLimit path.now (limit_file_of file) (limit_of limit)) path.now result self.new }
+        ensures inside { IfErr result (λ f. IfSome (refusal_in f) (λ r. names_in r ≤ length path.now)) }
+        ensures old_limit { IfOk result (λ old. limit_of old ≡ limit_at (limit_file_of file) (attr_of self.old path.now)) }
+        ensures certain { refusal M.SLOTS self.old (SetLimit path.now (limit_file_of file) (limit_of limit)) ≡ None → IsOk result }
+    {
+        Ok(self.replace_limit(path, file, limit)?)
     }
 
     /// `move_process`, without the new path.
     ///
     /// # Errors
     ///
-    /// Those of `move_process`.
+    /// The first of these that applies: `NoGroup`, `NoProcess`, `OutOfMemory`. Nothing has changed then.
     pub fn migrate<B: Allocator + Clone>(
         &mut self,
         who: u8,
@@ -154,13 +187,13 @@ impl<A: Allocator + Clone, M: Meter> Charges<A, M> {
         path: &GroupPath<B>,
     ) -> Result<Shifted<A>, ChargeFault>
         ensures state { Does M.SLOTS self.old (Move path.now pid) path.now result self.new }
-        ensures inside { IfErr result (λ f. names_in f ≤ length path.now) }
+        ensures inside { IfErr result (λ f. IfSome (refusal_in f) (λ r. names_in r ≤ length path.now)) }
         ensures old_home { IfOk result (λ shifted. shifted.path ≡ home_of self.old pid) }
         ensures peaks { IfOk result (λ shifted. shifted.peaks ≡ peaks_upward self.old path.now) }
     {
-        match self.move_process(who, pid, path) {
-            Ok(moved) => Ok(moved.left),
-            Err(fault) => Err(fault),
+        match self.move_process(who, pid, path)? {
+            MoveOutcome::Moved { left, .. } => Ok(left),
+            MoveOutcome::Refused(refusal) => Err(ChargeFault::from(refusal)),
         }
     }
 
@@ -179,7 +212,7 @@ impl<A: Allocator + Clone, M: Meter> Charges<A, M> {
         path: &GroupPath<B>,
     ) -> Result<LostList<A>, ChargeFault>
         ensures state { Does M.SLOTS self.old (Kill path.now) path.now result self.new }
-        ensures inside { IfErr result (λ f. names_in f ≤ length path.now) }
+        ensures inside { IfErr result (λ f. IfSome (refusal_in f) (λ r. names_in r ≤ length path.now)) }
         ensures taken { IfOk result (λ list. list ≡ inverse.lost self.old path.now) }
     {
         self.kill_by(&with_threads(rt, gate), who, path)
@@ -197,11 +230,11 @@ impl<A: Allocator + Clone, M: Meter> Charges<A, M> {
         path: &GroupPath<B>,
     ) -> Result<LostList<A>, ChargeFault>
         ensures state { Does M.SLOTS self.old (Kill path.now) path.now result self.new }
-        ensures inside { IfErr result (λ f. names_in f ≤ length path.now) }
+        ensures inside { IfErr result (λ f. IfSome (refusal_in f) (λ r. names_in r ≤ length path.now)) }
         ensures taken { IfOk result (λ list. list ≡ inverse.lost self.old path.now) }
     {
-        if let Some(fault) = self.refuses_kill(path) {
-            return Err(fault);
+        if let Some(refusal) = self.refuses_kill(path) {
+            return Err(ChargeFault::from(refusal));
         }
         Ok(self.take_processes(settler, who, path)?)
     }

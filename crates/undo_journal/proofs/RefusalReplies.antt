@@ -10,10 +10,6 @@ use Rattle.flat_model.specs.Refuse.{refuse}
 use Rattle.flat_model.specs.Step.{refusal, home_of}
 use Rattle.flat_model.specs.Machine.{recorded, outcome, undone, tick}
 use Rattle.flat_model.proofs.Limits.{fork_refused}
-use Rattle.pids_charge.specs.declared.fault.ChargeFault.{ChargeFault}
-use Rattle.pids_charge.specs.declared.fault.ChargeFault.TheVariants.{Exists, NoGroup, Descendants, Depth, NoSlot, RootFixed, HasChildren}
-use Rattle.pids_charge.specs.declared.fault.ChargeFault.TheVariants.{HasProcesses, NoProcess, PidInUse, PidsMax, OutOfMemory, NoFile}
-use Rattle.pids_charge.specs.Answers as charges
 use Rattle.undo_journal.specs.declared.reply.Refusal.{Refusal}
 use Rattle.undo_journal.specs.declared.reply.Reply.{Reply}
 use Rattle.undo_journal.specs.declared.reply.Reply.TheVariants.{Refused}
@@ -79,74 +75,6 @@ module _ (slots : ℕ) where
 
   pub parent_there : (s : State) (from child : ℕ) (a : Path) → refusal slots s (model.Fork from child) ≡ Some (model.OverPidsMax a) → has_process s from ≡ true
   parent_there s from child a e = limit_there from a (has_process s from) _ e
-
-  -- the faults that a fork may have
-  abbrev may_fork : Option model.Refusal → Bool
-  may_fork None = true
-  may_fork (Some (model.NoProcess pid)) = true
-  may_fork (Some (model.PidInUse pid)) = true
-  may_fork (Some (model.OverPidsMax a)) = true
-  may_fork (Some model.Exists) = false
-  may_fork (Some (model.NoGroup p)) = false
-  may_fork (Some (model.Descendants p)) = false
-  may_fork (Some (model.Depth p)) = false
-  may_fork (Some model.NoSlot) = false
-  may_fork (Some model.RootFixed) = false
-  may_fork (Some model.HasChildren) = false
-  may_fork (Some model.HasProcesses) = false
-  may_fork (Some model.NoFile) = false
-  may_fork (Some model.NotReadable) = false
-
-  may_refuse : (from child : ℕ) (b d : Bool) (o : Option Path) → may_fork (refuse b (model.NoProcess from) (refuse d (model.PidInUse child) (option_map model.OverPidsMax o))) ≡ true
-  may_refuse from child true d o = refl
-  may_refuse from child false true o = refl
-  may_refuse from child false false None = refl
-  may_refuse from child false false (Some a) = refl
-
-  other_fault : (p : Path) (f : ChargeFault) → may_fork (charges.refusal_of_fault p f) ≡ true → (f ≡ OutOfMemory → ⊥)
-      → ((n : ℕ) → f ≡ NoProcess n → ⊥) → ((n : ℕ) → f ≡ PidInUse n → ⊥) → ((n : ℕ) → f ≡ PidsMax n → ⊥) → ⊥
-  other_fault p OutOfMemory t m h i k = m refl
-  other_fault p (NoProcess n) t m h i k = h n refl
-  other_fault p (PidInUse n) t m h i k = i n refl
-  other_fault p (PidsMax n) t m h i k = k n refl
-  other_fault p Exists t m h i k = false≢true t
-  other_fault p (NoGroup n) t m h i k = false≢true t
-  other_fault p (Descendants n) t m h i k = false≢true t
-  other_fault p (Depth n) t m h i k = false≢true t
-  other_fault p NoSlot t m h i k = false≢true t
-  other_fault p RootFixed t m h i k = false≢true t
-  other_fault p HasChildren t m h i k = false≢true t
-  other_fault p HasProcesses t m h i k = false≢true t
-  other_fault p NoFile t m h i k = false≢true t
-
-  pub no_other_fault : (s : State) (from child : ℕ) (p : Path) (f : ChargeFault)
-      → refusal slots s (model.Fork from child) ≡ charges.refusal_of_fault p f → (f ≡ OutOfMemory → ⊥) → ((n : ℕ) → f ≡ NoProcess n → ⊥)
-      → ((n : ℕ) → f ≡ PidInUse n → ⊥) → ((n : ℕ) → f ≡ PidsMax n → ⊥) → ⊥
-  no_other_fault s from child p f e =
-      other_fault p f (ap may_fork (sym e) ∙ may_refuse from child (not (has_process s from)) (has_process s child) (blocked_fork s (home_of s from)))
-
-  abbrev counts : Option model.Refusal → Bool
-  counts None = false
-  counts (Some r) = model.is_counted r
-
-  -- only the fault of a limit on processes is counted
-  no_count : (p : Path) (f : ChargeFault) → ((n : ℕ) → f ≡ PidsMax n → ⊥) → counts (charges.refusal_of_fault p f) ≡ false
-  no_count p (PidsMax n) h = absurd (h n refl)
-  no_count p Exists h = refl
-  no_count p (NoGroup n) h = refl
-  no_count p (Descendants n) h = refl
-  no_count p (Depth n) h = refl
-  no_count p NoSlot h = refl
-  no_count p RootFixed h = refl
-  no_count p HasChildren h = refl
-  no_count p HasProcesses h = refl
-  no_count p (NoProcess n) h = refl
-  no_count p (PidInUse n) h = refl
-  no_count p OutOfMemory h = refl
-  no_count p NoFile h = refl
-
-  pub fault_uncounted : (p : Path) (f : ChargeFault) (r : model.Refusal) → Some r ≡ charges.refusal_of_fault p f → ((n : ℕ) → f ≡ PidsMax n → ⊥) → model.is_counted r ≡ false
-  fault_uncounted p f r e h = ap counts e ∙ no_count p f h
 
   -- what the machine answers to a command whose first refusal is known
   pub answers_by : {A : Type 0} (t : Timeline) (c : model.Command) (o : Option model.Refusal) (reply : Reply A) (new : Timeline) → model.is_undo c ≡ false → refusal slots t.machine.state c ≡ o →

@@ -10,7 +10,7 @@ use crate::engine::Engine;
 use crate::faults::refusal_to_show;
 use crate::reply::Reply;
 use group_path::GroupPath;
-use interface_files::{File, render};
+use interface_files::{File, Shown, show};
 use pids_charge::Meter;
 use std::alloc::{AllocError, Allocator};
 
@@ -23,10 +23,10 @@ impl<A: Allocator + Clone, M: Meter> Engine<A, M> {
         ensures ok { IfOk result (λ reply. Answers M.SLOTS self.old (model.Show path.now (file_of file)) reply self.new) }
         ensures err { OnErr result (self.new ≡ self.old) }
     {
-        match render(self.alloc.clone()?, &mut self.charges, path, file) {
-            Ok(text) => Ok(Reply::Text(Bytes::of(text))),
-            Err(fault) => {
-                let refusal = refusal_to_show(&self.alloc, path, fault)?;
+        match show(self.alloc.clone()?, &mut self.charges, path, file)? {
+            Shown::Text(text) => Ok(Reply::Text(Bytes::of(text))),
+            Shown::Refused(refusal) => {
+                let refusal = refusal_to_show(&self.alloc, path, refusal)?;
                 Ok(Reply::Refused(refusal))
             }
         }

@@ -26,13 +26,13 @@ impl<A: Allocator + Clone, M: Meter> Engine<A, M> {
     {
         // A refusal comes before any memory is asked for.
         if self.journal.len() == self.journal.capacity() {
-            if let Some(fault) = self.charges.refuses_exit(pid) {
-                let refusal = refusal_at(&self.alloc, self.charges.home(pid), fault)?;
+            if let Some(refusal) = self.charges.refuses_exit(pid) {
+                let refusal = refusal_at(&self.alloc, self.charges.home(pid), refusal)?;
                 return Ok(Reply::Refused(refusal));
             }
         }
         self.journal.reserve(1)?;
-        match self.charges.exit(who, pid) {
+        match self.charges.take_process(who, pid) {
             Ok(path) => {
                 self.journal.push(JournalEntry {
                     command: Command::Exit(pid),
@@ -40,8 +40,8 @@ impl<A: Allocator + Clone, M: Meter> Engine<A, M> {
                 })?;
                 Ok(Reply::Done)
             }
-            Err(fault) => {
-                let refusal = refusal_at(&self.alloc, self.charges.home(pid), fault)?;
+            Err(refusal) => {
+                let refusal = refusal_at(&self.alloc, self.charges.home(pid), refusal)?;
                 Ok(Reply::Refused(refusal))
             }
         }

@@ -27,32 +27,30 @@ impl<A: Allocator + Clone, M: Meter> Engine<A, M> {
     {
         // A refusal that names a process comes before any memory is asked for.
         if self.journal.len() == self.journal.capacity() {
-            if let Some(fault) = self.charges.refuses_pids(parent, child) {
-                let refusal = refusal_at(&self.alloc, self.charges.home(parent), fault)?;
+            if let Some(refusal) = self.charges.refuses_pids(parent, child) {
+                let refusal = refusal_at(&self.alloc, self.charges.home(parent), refusal)?;
                 return Ok(Reply::Refused(refusal));
             }
         }
         self.journal.reserve(1)?;
         let can_count = u64::MAX - self.forgotten > self.journal.len() as u64;
-        match self.charges.fork_or_count(who, parent, child, can_count) {
-            Ok(outcome) => match outcome {
-                ForkOutcome::Made(peaks) => {
-                    self.journal.push(JournalEntry {
-                        command: Command::Fork { parent, child },
-                        inverse: Inverse::Forked { pid: child, peaks },
-                    })?;
-                    Ok(Reply::Done)
-                }
-                ForkOutcome::Counted { path, shared } => {
-                    self.journal.push(JournalEntry {
-                        command: Command::Fork { parent, child },
-                        inverse: Inverse::Counted { path: shared },
-                    })?;
-                    Ok(Reply::Refused(Refusal::PidsMax(path)))
-                }
-            },
-            Err(fault) => {
-                let refusal = refusal_at(&self.alloc, self.charges.home(parent), fault)?;
+        match self.charges.fork_or_count(who, parent, child, can_count)? {
+            ForkOutcome::Made(peaks) => {
+                self.journal.push(JournalEntry {
+                    command: Command::Fork { parent, child },
+                    inverse: Inverse::Forked { pid: child, peaks },
+                })?;
+                Ok(Reply::Done)
+            }
+            ForkOutcome::Counted { path, shared } => {
+                self.journal.push(JournalEntry {
+                    command: Command::Fork { parent, child },
+                    inverse: Inverse::Counted { path: shared },
+                })?;
+                Ok(Reply::Refused(Refusal::PidsMax(path)))
+            }
+            ForkOutcome::Refused(refusal) => {
+                let refusal = refusal_at(&self.alloc, self.charges.home(parent), refusal)?;
                 Ok(Reply::Refused(refusal))
             }
         }

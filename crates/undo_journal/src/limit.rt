@@ -39,7 +39,7 @@ impl<A: Allocator + Clone, M: Meter> Engine<A, M> {
         let named = path.copy(self.alloc.clone()?)?;
         let limited = named.share()?;
         self.journal.reserve(1)?;
-        let Ok(older) = self.charges.set_limit(path, file, value) else {
+        let Ok(older) = self.charges.replace_limit(path, file, value) else {
             unreachable!()
         };
         self.journal.push(JournalEntry {
@@ -66,8 +66,8 @@ impl<A: Allocator + Clone, M: Meter> Engine<A, M> {
         ensures ok { IfOk result (λ reply. Answers M.SLOTS self.old (model.SetLimit path.now (limit_file_of file) (limit_of value)) reply self.new) }
         ensures err { OnErr result (self.new ≡ self.old) }
     {
-        if let Some(fault) = self.charges.refuses_limit(path, file) {
-            let refusal = refusal_at(&self.alloc, Some(path), fault)?;
+        if let Some(refusal) = self.charges.refuses_limit(path, file) {
+            let refusal = refusal_at(&self.alloc, Some(path), refusal)?;
             return Ok(Reply::Refused(refusal));
         }
         self.write_limit(path, file, value)?;
@@ -85,7 +85,7 @@ pub(crate) fn undo_limit<A: Allocator + Clone, M: Meter>(
     requires { IsReady M.SLOTS charges.old (model_inverse.Limited path.now (limit_file_of file) (limit_of value)) }
     ensures { charges.new ≡ back (model_inverse.Limited path.now (limit_file_of file) (limit_of value)) charges.old }
 {
-    let Ok(_newer) = charges.set_limit(path, file, value) else {
+    let Ok(_newer) = charges.replace_limit(path, file, value) else {
         unreachable!()
     };
 }

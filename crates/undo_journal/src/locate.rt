@@ -16,8 +16,8 @@ impl<A: Allocator + Clone, M: Meter> Engine<A, M> {
     pub(crate) fn locate(&self, pid: Pid) -> Result<Reply<A>, AllocError>
         ensures { IfOk result (λ reply. Answers M.SLOTS self.now (model.Locate pid) reply self.now) }
     {
-        if let Some(fault) = self.charges.refuses_exit(pid) {
-            let refusal = refusal_at(&self.alloc, self.charges.home(pid), fault)?;
+        if let Some(refusal) = self.charges.refuses_exit(pid) {
+            let refusal = refusal_at(&self.alloc, self.charges.home(pid), refusal)?;
             return Ok(Reply::Refused(refusal));
         }
         match render_home(self.alloc.clone()?, &self.charges, pid) {

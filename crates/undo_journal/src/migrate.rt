@@ -15,7 +15,7 @@ use crate::inverse::Inverse;
 use crate::journal::JournalEntry;
 use crate::reply::Reply;
 use group_path::GroupPath;
-use pids_charge::{Charges, Meter, Peaks, Pid};
+use pids_charge::{Charges, Meter, MoveOutcome, Peaks, Pid};
 use std::alloc::{AllocError, Allocator};
 
 impl<A: Allocator + Clone, M: Meter> Engine<A, M> {
@@ -31,29 +31,26 @@ impl<A: Allocator + Clone, M: Meter> Engine<A, M> {
     {
         // A refusal comes before any memory is asked for.
         if self.journal.len() == self.journal.capacity() {
-            if let Some(fault) = self.charges.refuses_move(path, pid) {
-                let refusal = refusal_at(&self.alloc, Some(path), fault)?;
+            if let Some(refusal) = self.charges.refuses_move(path, pid) {
+                let refusal = refusal_at(&self.alloc, Some(path), refusal)?;
                 return Ok(Reply::Refused(refusal));
             }
         }
         self.journal.reserve(1)?;
-        match self.charges.move_process(who, pid, path) {
-            Ok(moved) => {
+        match self.charges.move_process(who, pid, path)? {
+            MoveOutcome::Moved { to, left } => {
                 self.journal.push(JournalEntry {
-                    command: Command::Move {
-                        path: moved.to,
-                        pid,
-                    },
+                    command: Command::Move { path: to, pid },
                     inverse: Inverse::Moved {
                         pid,
-                        path: moved.left.path,
-                        peaks: moved.left.peaks,
+                        path: left.path,
+                        peaks: left.peaks,
                     },
                 })?;
                 Ok(Reply::Done)
             }
-            Err(fault) => {
-                let refusal = refusal_at(&self.alloc, Some(path), fault)?;
+            MoveOutcome::Refused(refusal) => {
+                let refusal = refusal_at(&self.alloc, Some(path), refusal)?;
                 Ok(Reply::Refused(refusal))
             }
         }

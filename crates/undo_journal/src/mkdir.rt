@@ -45,8 +45,8 @@ impl<A: Allocator + Clone, M: Meter> Engine<A, M> {
         ensures ok { IfOk result (λ reply. Answers M.SLOTS self.old (model.MakeGroup path.now) reply self.new) }
         ensures err { OnErr result (self.new ≡ self.old) }
     {
-        if let Some(fault) = self.charges.refuses_mkdir(path) {
-            let refusal = refusal_at(&self.alloc, Some(path), fault)?;
+        if let Some(refusal) = self.charges.refuses_mkdir(path) {
+            let refusal = refusal_at(&self.alloc, Some(path), refusal)?;
             return Ok(Reply::Refused(refusal));
         }
         self.add_group(path)?;

@@ -1,5 +1,5 @@
-use Rattle.charge_laws.proofs.FaultLaws.{forked_is, one_outcome}
+use Rattle.charge_laws.proofs.FaultLaws.{counted_or_not, forked_is, made_or_refused, one_outcome}
 use Rattle.charge_laws.proofs.faults.what_becomes_of_a_fork.Goals as goal
 
 pub returns : goal.returns
-returns c = record { stepped = forked_is; one = one_outcome }
+returns c = record { stepped = forked_is; one = one_outcome; refused = made_or_refused; uncounted = counted_or_not }

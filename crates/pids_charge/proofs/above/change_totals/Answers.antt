@@ -1,8 +1,8 @@
-use Rattle.std.proofs.Common.{◌≡◌, ℕ, ◌-◌, ◌<◌, length, take, option_map, arith, refl, sym, ap, ◌∙◌}
+use Rattle.std.proofs.Common.{◌≡◌, ℕ, ◌-◌, ◌<◌, length, take, option_map, arith, refl, sym, ap, ◌∙◌, ◌^◌}
 use Rattle.std.specs.FinMap as fin
 use Rattle.flat_model.specs.Path.{Path}
 use Rattle.group_tree.specs.declared.attr.Attr.{Attr}
-use Rattle.pids_charge.specs.Events.{stepped}
+use Rattle.pids_charge.specs.GroupRows.{stepped}
 use Rattle.pids_charge.proofs.RowsUp.{begun, further, of_step, part_step, way_left, still_there, rows_at_kept, total_by, totals_changed, up_by}
 use Rattle.pids_charge.proofs.ParentSteps.{at_own, at_root}
 use Rattle.pids_charge.proofs.above.change_totals.Goals as goal
@@ -12,14 +12,14 @@ pub loop-up-init : goal.loop-up-init
 loop-up-init g c = record {
   bound = omega arith;
   few = λ p there here. omega arith;
-  way = λ p there here. record { here = at_own c.args.tree.now p c.args.row here; changed = begun p (total_by (stepped c.args.change)) c.args.tree.now };
+  way = λ p there here. record { here = at_own c.args.tree.now p c.args.row here; changed = begun p (total_by (stepped (2 ^ 64 - 1) c.args.change)) c.args.tree.now };
 }
 
 pub row-attr-requires : goal.row-attr-requires
 row-attr-requires g c =
     let own = c.requires.group in
     of_step c.args.tree.now c.loop-up.tree own.path c.loop-up._up c.loop-up.at
-    (part_step c.args.tree.now own.path own.there c.known.ensures.prefixes (total_by (stepped c.args.change)) (λ k a. refl)
+    (part_step c.args.tree.now own.path own.there c.known.ensures.prefixes (total_by (stepped (2 ^ 64 - 1) c.args.change)) (λ k a. refl)
     c.loop-up._up (way_left c.args.tree.now own.path own.there c.known.ensures.prefixes c.loop-up._up c.loop-up.at (c.loop-up.invariant.way own.path own.there own.here).here (omega (arith, c.if-at-eq0.false)))
     c.loop-up.tree c.loop-up.at (c.loop-up.invariant.way own.path own.there own.here))
 
@@ -27,7 +27,7 @@ pub up-above-requires : goal.up-above-requires
 up-above-requires g c =
     let own = c.requires.group in
     of_step c.args.tree.now c.loop-up.tree own.path c.loop-up._up c.loop-up.at
-    (part_step c.args.tree.now own.path own.there c.known.ensures.prefixes (total_by (stepped c.args.change)) (λ k a. refl)
+    (part_step c.args.tree.now own.path own.there c.known.ensures.prefixes (total_by (stepped (2 ^ 64 - 1) c.args.change)) (λ k a. refl)
     c.loop-up._up (way_left c.args.tree.now own.path own.there c.known.ensures.prefixes c.loop-up._up c.loop-up.at (c.loop-up.invariant.way own.path own.there own.here).here (omega (arith, c.if-at-eq0.false)))
     c.loop-up.tree c.loop-up.at (c.loop-up.invariant.way own.path own.there own.here))
 
@@ -35,13 +35,13 @@ pub put-requires-clause-group : goal.put-requires-clause-group
 put-requires-clause-group g c =
     let own = c.requires.group in
     of_step c.args.tree.now c.loop-up.tree own.path c.loop-up._up c.loop-up.at
-    (part_step c.args.tree.now own.path own.there c.known.ensures.prefixes (total_by (stepped c.args.change)) (λ k a. refl)
+    (part_step c.args.tree.now own.path own.there c.known.ensures.prefixes (total_by (stepped (2 ^ 64 - 1) c.args.change)) (λ k a. refl)
     c.loop-up._up (way_left c.args.tree.now own.path own.there c.known.ensures.prefixes c.loop-up._up c.loop-up.at (c.loop-up.invariant.way own.path own.there own.here).here (omega (arith, c.if-at-eq0.false)))
     c.loop-up.tree c.loop-up.at (c.loop-up.invariant.way own.path own.there own.here))
 
 pub loop-up-preserved : goal.loop-up-preserved
 loop-up-preserved g c =
-    let f : ℕ → Attr → Attr = total_by (stepped c.args.change) in
+    let f : ℕ → Attr → Attr = total_by (stepped (2 ^ 64 - 1) c.args.change) in
     let row : Attr = c.row-attr.result.now in
     record {
       bound = omega arith;
@@ -64,7 +64,7 @@ loop-up-preserved g c =
 pub row-own-requires : goal.row-own-requires
 row-own-requires g c =
     let own = c.requires.group in
-    let f : ℕ → Attr → Attr = total_by (stepped c.args.change) in
+    let f : ℕ → Attr → Attr = total_by (stepped (2 ^ 64 - 1) c.args.change) in
     let part = c.loop-up.invariant.way own.path own.there own.here in
     record {
       path = own.path;
@@ -75,7 +75,7 @@ row-own-requires g c =
 pub put-requires-2-clause-group : goal.put-requires-2-clause-group
 put-requires-2-clause-group g c =
     let own = c.requires.group in
-    let f : ℕ → Attr → Attr = total_by (stepped c.args.change) in
+    let f : ℕ → Attr → Attr = total_by (stepped (2 ^ 64 - 1) c.args.change) in
     let part = c.loop-up.invariant.way own.path own.there own.here in
     record {
       path = own.path;
@@ -85,7 +85,7 @@ put-requires-2-clause-group g c =
 
 pub returns : goal.returns
 returns g c = λ p home from q.
-    let f : ℕ → Attr → Attr = total_by (stepped c.args.change) in
+    let f : ℕ → Attr → Attr = total_by (stepped (2 ^ 64 - 1) c.args.change) in
     let row : Attr = c.row-own.result.now in
     let part = c.loop-up.invariant.way p home from in
     let few = c.loop-up.invariant.few p home from in
@@ -98,6 +98,6 @@ returns g c = λ p home from q.
           let top = at_root c.args.tree.now p c.loop-up.at (length p - c.loop-up._up) (omega arith) part.here (omega (arith, w.if-at-eq0.true)) in
           omega (arith, few, top)
     ] in
-    totals_changed (stepped c.args.change) p c.args.tree.now c.loop-up.tree c.put-2.new.self row
+    totals_changed (stepped (2 ^ 64 - 1) c.args.change) p c.args.tree.now c.loop-up.tree c.put-2.new.self row
     (λ r. part.changed r ∙ ap (λ (n : ℕ). option_map (up_by p f n r) (fin.get c.args.tree.now r)) whole) (c.row-own.ensures p there here)
     (c.put-2.ensures p there here ∙ ap (λ (n : ℕ). fin.insert c.loop-up.tree p (record row { local = n })) c.of-local.ensures) q

@@ -1,7 +1,7 @@
 use Rattle.std.proofs.Common.{◌+◌, ◌-◌, length, take, refl, ◌∙◌, arith}
 use Rattle.flat_model.specs.Path.{Path, parent}
 use Rattle.flat_model.proofs.PathLaws.{take_above}
-use Rattle.pids_charge.proofs.FirstLimits.{first_here, none_met, one_further}
+use Rattle.pids_charge.proofs.FirstLimits.{far_is, first_here, front_is, none_met, one_further}
 use Rattle.pids_charge.proofs.ParentSteps.{at_own, of_group, parent_of_front}
 use Rattle.pids_charge.proofs.hierarchy.first_met.Goals as goal
 
@@ -18,13 +18,17 @@ up-at-requires g c =
     let own = c.requires.parent in
     of_group c.args.tree.now own.path own.there c.known.ensures.prefixes c.loop-levels.at (length own.path - c.loop-levels.levels) (c.loop-levels.invariant.at own.path own.there own.here)
 
-pub returns-in-Some : goal.returns-in-Some
-returns-in-Some g c = λ p names home here.
+pub returns-in-Some-clause-first : goal.returns-in-Some-clause-first
+returns-in-Some-clause-first g c = λ p names home here.
     let q : Path = parent p in
     let own : Path = take (length q - c.loop-levels.levels) q in
     let there = c.known.ensures.prefixes q own home (take_above (length q - c.loop-levels.levels) q) in
-    first_here c.args.tree.now p (omega (arith, names)) c.loop-levels.levels (c.args.n - c.loop-levels.levels) (omega (arith, names)) (omega (arith, names))
-    _ c.in-Some.met (c.in-Some.ensures own there (c.loop-levels.invariant.at q home here)) refl (c.loop-levels.invariant.none p names home here)
+    let n = c.args.n - c.loop-levels.levels in
+    let at = c.loop-levels.invariant.at q home here in
+    let front = front_is c.args.tree.now p (omega (arith, names)) c.loop-levels.levels n (omega (arith, names)) (omega (arith, names)) in
+    let far = far_is c.args.tree.now p (omega (arith, names)) c.loop-levels.levels n (omega (arith, names)) (omega (arith, names)) in
+    first_here c.args.tree.now p (omega (arith, names)) c.loop-levels.levels n (omega (arith, names)) (omega (arith, names))
+    c.in-Some.met (c.in-Some.ensures.met p own there at front far) c.in-Some.ensures.inside (c.loop-levels.invariant.none p names home here)
 
 pub loop-levels-preserved : goal.loop-levels-preserved
 loop-levels-preserved g c = record {
@@ -36,10 +40,13 @@ loop-levels-preserved g c = record {
       let q : Path = parent p in
       let own : Path = take (length q - c.loop-levels.levels) q in
       let there = c.known.ensures.prefixes q own home (take_above (length q - c.loop-levels.levels) q) in
-      one_further c.args.tree.now p (omega (arith, names)) c.loop-levels.levels (c.args.n - c.loop-levels.levels)
-      (omega (arith, names)) (omega (arith, names)) (c.loop-levels.levels + 1) (omega arith) _ (c.in_default.ensures own there (c.loop-levels.invariant.at q home here)) refl
-      (c.loop-levels.invariant.none p names home here);
+      let n = c.args.n - c.loop-levels.levels in
+      let at = c.loop-levels.invariant.at q home here in
+      let front = front_is c.args.tree.now p (omega (arith, names)) c.loop-levels.levels n (omega (arith, names)) (omega (arith, names)) in
+      let far = far_is c.args.tree.now p (omega (arith, names)) c.loop-levels.levels n (omega (arith, names)) (omega (arith, names)) in
+      one_further c.args.tree.now p (omega (arith, names)) c.loop-levels.levels n (omega (arith, names)) (omega (arith, names))
+      (c.loop-levels.levels + 1) (omega arith) (c.in_default.ensures.met p own there at front far) (c.loop-levels.invariant.none p names home here);
 }
 
-pub returns : goal.returns
-returns g c = λ p names home here. none_met c.args.tree.now p (omega (arith, names)) c.loop-levels.levels (omega (arith, names)) (c.loop-levels.invariant.none p names home here)
+pub returns-clause-first : goal.returns-clause-first
+returns-clause-first g c = λ p names home here. none_met c.args.tree.now p (omega (arith, names)) c.loop-levels.levels (omega (arith, names)) (c.loop-levels.invariant.none p names home here)

@@ -1,7 +1,8 @@
 use Rattle.std.proofs.Common.{◌≡◌, ◌-◌, ◌≤◌, length, take}
 use Rattle.std.specs.FinMap as fin
-use Rattle.pids_charge.specs.Events.{full_by, longest}
+use Rattle.pids_charge.specs.Events.{full_by}
 use Rattle.pids_charge.specs.Lists.{row_at}
+use Rattle.pids_charge.proofs.FullGroupWalk.{longest}
 use Rattle.pids_charge.proofs.notes.nearest_full.Given as goal
 
 abbrev pub invariant-loop-up : goal.invariant-loop-up

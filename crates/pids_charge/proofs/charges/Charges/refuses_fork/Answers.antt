@@ -1,9 +1,9 @@
-use Rattle.std.proofs.Common.{◌≡◌, Some, None, is_some, sym, ap, ◌∙◌, subst, ◌≤◌, length, option_map}
-use Rattle.flat_model.specs.Command.{Fork}
+use Rattle.std.proofs.Common.{◌≡◌, Some, None, is_some, sym, ap, ◌∙◌, subst, ◌≤◌, length, take, option_map}
+use Rattle.flat_model.specs.Command.{Fork, OverPidsMax}
 use Rattle.flat_model.specs.Path.{Path}
 use Rattle.flat_model.specs.State.{State}
 use Rattle.flat_model.specs.Step.{refusal, home_of}
-use Rattle.pids_charge.specs.Answers.{refusal_of_fault}
+use Rattle.pids_charge.specs.Answers.{refusal_along}
 use Rattle.pids_charge.proofs.FlatGroups.{process-is}
 use Rattle.pids_charge.proofs.MeterContents.{found_placed}
 use Rattle.pids_charge.proofs.ForkOutcomes.{home_at, fork_asks}
@@ -18,17 +18,19 @@ nearest_full-requires-clause-row g c = (found_placed _ _ _ _ _ c.self.invariant.
 
 pub returns-in-Err-clause-first : goal.returns-in-Err-clause-first
 returns-in-Err-clause-first g c =
-    subst (λ (s : State). refusal g.M.Meter.SLOTS s (Fork c.args.parent c.args.child) ≡ refusal_of_fault (home_of c.args.self.now c.args.parent) c.in-Err.fault) c.self.view_is
+    subst (λ (s : State). refusal g.M.Meter.SLOTS s (Fork c.args.parent c.args.child) ≡ Some (refusal_along (home_of c.args.self.now c.args.parent) c.in-Err.refusal)) c.self.view_is
     (c.in-Err.ensures.first g.M.Meter.SLOTS c.self.inside.tree (home_of c.args.self.now c.args.parent))
 
 pub returns-in-Some-clause-first : goal.returns-in-Some-clause-first
 returns-in-Some-clause-first g c =
     let found = c.in-Ok.ensures.parent in
+    let at_home = home_at _ _ _ _ _ c.self.invariant.recounted c.args.self.now c.self.view_is c.args.parent c.in-Ok.process.now found in
     let new = process-is c.args.self.now c.self.inside.tree c.self.inside.processes c.self.view_is c.self.invariant.recounted.ordered c.args.child ∙ c.in-Ok.ensures.child in
     fork_asks g.M.Meter.SLOTS g.M.Meter.LEAVES c.self.inside.tree c.self.inside.processes (g.M.Meter.content c.self.inside.meter)
     (g.M.Meter.held c.self.inside.meter) c.self.invariant.recounted c.self.inside.free.items c.self.invariant.has_slots
     c.known.ensures.prefixes c.args.self.now c.self.view_is c.args.parent c.in-Ok.process.now found c.args.child new
-    (Some c.in-Some.full.names) (ap (option_map (λ (full : FullGroup). full.names)) (sym c.in-Some.is) ∙ c.nearest_full.ensures.answer)
+    (Some (take c.in-Some.full.names c.in-Ok.process.now.home)) (ap (option_map (λ (full : FullGroup). take full.names c.in-Ok.process.now.home)) (sym c.in-Some.is) ∙ c.nearest_full.ensures.answer)
+    ∙ ap (λ (q : Path). Some (OverPidsMax (take c.in-Some.full.names q))) (sym at_home)
 
 pub returns-in-Some-clause-inside : goal.returns-in-Some-clause-inside
 returns-in-Some-clause-inside g c =
@@ -42,7 +44,7 @@ returns-clause-first g c =
     fork_asks g.M.Meter.SLOTS g.M.Meter.LEAVES c.self.inside.tree c.self.inside.processes (g.M.Meter.content c.self.inside.meter)
     (g.M.Meter.held c.self.inside.meter) c.self.invariant.recounted c.self.inside.free.items c.self.invariant.has_slots
     c.known.ensures.prefixes c.args.self.now c.self.view_is c.args.parent c.in-Ok.process.now found c.args.child new None
-    (ap (option_map (λ (full : FullGroup). full.names)) (sym c.in_default.is) ∙ c.nearest_full.ensures.answer)
+    (ap (option_map (λ (full : FullGroup). take full.names c.in-Ok.process.now.home)) (sym c.in_default.is) ∙ c.nearest_full.ensures.answer)
 
 pub returns-clause-ready : goal.returns-clause-ready
 returns-clause-ready g c = λ _. (

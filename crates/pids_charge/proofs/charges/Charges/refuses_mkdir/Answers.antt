@@ -4,7 +4,7 @@ use Rattle.std.proofs.lemmas.List.{length-take-le}
 use Rattle.std.specs.FinMap as fin
 use Rattle.flat_model.specs.Command as model
 use Rattle.flat_model.specs.Path.{Path}
-use Rattle.pids_charge.specs.HierarchyLimits.{refusal_along}
+use Rattle.pids_charge.specs.Answers.{refusal_along}
 use Rattle.pids_charge.specs.Lists.{row_at}
 use Rattle.pids_charge.proofs.FlatGroups.{blocked-is, group-is, is_none, len-is, make_exists, make_no_parent, make_blocked, make_full, make_allowed}
 use Rattle.pids_charge.proofs.GroupReads.{matched}
@@ -30,42 +30,30 @@ first_met-requires-clause-shallow g c =
     let short = c.self.invariant.has_slots.shallow own c.in-Some.ensures.0 in
     omega (arith, short, length-take-le c.saturating_sub-n.result c.args.path.now (omega (arith, c.saturating_sub-n.ensures, c.depth.ensures)))
 
-pub returns-in-Some-Descendants-clause-first : goal.returns-in-Some-Descendants-clause-first
-returns-in-Some-Descendants-clause-first g c =
+pub returns-in-Some-first_met-clause-first : goal.returns-in-Some-first_met-clause-first
+returns-in-Some-first_met-clause-first g c =
     let absent = group-is c.args.self.now c.self.inside.tree c.self.inside.processes c.self.view_is c.args.path.now ∙ sym (matched c.find_row.result (fin.get c.self.inside.tree c.args.path.now) _ c.find_row.ensures) ∙ sym c.is_some.ensures ∙ c.if-is_some.false in
     let up : c.saturating_sub-n.result ≡ length c.args.path.now - 1 = c.saturating_sub-n.ensures ∙ ap (λ n. n - 1) c.depth.ensures in
     let above = group-is c.args.self.now c.self.inside.tree c.self.inside.processes c.self.view_is (take c.saturating_sub-n.result c.args.path.now) ∙ c.in-Some.ensures.0 in
     let named = has_names c.self.inside.tree c.self.invariant.has_slots.closed c.args.path.now (is_none (fin.get c.self.inside.tree c.args.path.now)
     (sym (matched c.find_row.result (fin.get c.self.inside.tree c.args.path.now) _ c.find_row.ensures) ∙ sym c.is_some.ensures ∙ c.if-is_some.false)) in
-    let first = c.in-Some-Descendants.ensures c.args.path.now (omega (arith, named, c.saturating_sub-n.ensures, c.depth.ensures))
+    let first = c.in-Some-first_met.ensures.first c.args.path.now (omega (arith, named, c.saturating_sub-n.ensures, c.depth.ensures))
     (subst (λ (n : ℕ). IsSome (fin.get c.self.inside.tree (take n c.args.path.now))) up c.in-Some.ensures.0)
     (c.in-Some.ensures.1 ∙ ap (λ (n : ℕ). row_at c.self.inside.tree (take n c.args.path.now)) up) in
-    let met = blocked-is c.self.inside.tree c.self.inside.processes c.args.self.now c.self.view_is c.args.path.now _ first in
-    make_blocked g.M.Meter.SLOTS c.args.self.now c.args.path.now c.saturating_sub-n.result (model.Descendants (take c.in-Some-Descendants.n c.args.path.now)) up absent above
-    (met ∙ ap (λ met. Some (refusal_along c.args.path.now met)) c.in-Some-Descendants.field-0-is) ∙ ap (λ n. Some (model.Descendants (take n c.args.path.now))) (sym c.in-Some-Descendants.n-is)
+    make_blocked g.M.Meter.SLOTS c.args.self.now c.args.path.now c.saturating_sub-n.result (refusal_along c.args.path.now c.in-Some-first_met.met) up absent above
+    (blocked-is c.self.inside.tree c.self.inside.processes c.args.self.now c.self.view_is c.args.path.now _ first)
 
-pub returns-in-Some-Depth-clause-first : goal.returns-in-Some-Depth-clause-first
-returns-in-Some-Depth-clause-first g c =
+pub returns-in-Some-first_met-clause-kept : goal.returns-in-Some-first_met-clause-kept
+returns-in-Some-first_met-clause-kept g c = c.in-Some-first_met.ensures.uncounted c.args.path.now c.args.self.now
+
+pub returns-then-is_empty-clause-first : goal.returns-then-is_empty-clause-first
+returns-then-is_empty-clause-first g c =
     let absent = group-is c.args.self.now c.self.inside.tree c.self.inside.processes c.self.view_is c.args.path.now ∙ sym (matched c.find_row.result (fin.get c.self.inside.tree c.args.path.now) _ c.find_row.ensures) ∙ sym c.is_some.ensures ∙ c.if-is_some.false in
     let up : c.saturating_sub-n.result ≡ length c.args.path.now - 1 = c.saturating_sub-n.ensures ∙ ap (λ n. n - 1) c.depth.ensures in
     let above = group-is c.args.self.now c.self.inside.tree c.self.inside.processes c.self.view_is (take c.saturating_sub-n.result c.args.path.now) ∙ c.in-Some.ensures.0 in
     let named = has_names c.self.inside.tree c.self.invariant.has_slots.closed c.args.path.now (is_none (fin.get c.self.inside.tree c.args.path.now)
     (sym (matched c.find_row.result (fin.get c.self.inside.tree c.args.path.now) _ c.find_row.ensures) ∙ sym c.is_some.ensures ∙ c.if-is_some.false)) in
-    let first = c.in-Some-Depth.ensures c.args.path.now (omega (arith, named, c.saturating_sub-n.ensures, c.depth.ensures))
-    (subst (λ (n : ℕ). IsSome (fin.get c.self.inside.tree (take n c.args.path.now))) up c.in-Some.ensures.0)
-    (c.in-Some.ensures.1 ∙ ap (λ (n : ℕ). row_at c.self.inside.tree (take n c.args.path.now)) up) in
-    let met = blocked-is c.self.inside.tree c.self.inside.processes c.args.self.now c.self.view_is c.args.path.now _ first in
-    make_blocked g.M.Meter.SLOTS c.args.self.now c.args.path.now c.saturating_sub-n.result (model.Depth (take c.in-Some-Depth.n c.args.path.now)) up absent above
-    (met ∙ ap (λ met. Some (refusal_along c.args.path.now met)) c.in-Some-Depth.field-0-is) ∙ ap (λ n. Some (model.Depth (take n c.args.path.now))) (sym c.in-Some-Depth.n-is)
-
-pub returns-in-None-clause-first : goal.returns-in-None-clause-first
-returns-in-None-clause-first g c =
-    let absent = group-is c.args.self.now c.self.inside.tree c.self.inside.processes c.self.view_is c.args.path.now ∙ sym (matched c.find_row.result (fin.get c.self.inside.tree c.args.path.now) _ c.find_row.ensures) ∙ sym c.is_some.ensures ∙ c.if-is_some.false in
-    let up : c.saturating_sub-n.result ≡ length c.args.path.now - 1 = c.saturating_sub-n.ensures ∙ ap (λ n. n - 1) c.depth.ensures in
-    let above = group-is c.args.self.now c.self.inside.tree c.self.inside.processes c.self.view_is (take c.saturating_sub-n.result c.args.path.now) ∙ c.in-Some.ensures.0 in
-    let named = has_names c.self.inside.tree c.self.invariant.has_slots.closed c.args.path.now (is_none (fin.get c.self.inside.tree c.args.path.now)
-    (sym (matched c.find_row.result (fin.get c.self.inside.tree c.args.path.now) _ c.find_row.ensures) ∙ sym c.is_some.ensures ∙ c.if-is_some.false)) in
-    let first = c.in-None.ensures c.args.path.now (omega (arith, named, c.saturating_sub-n.ensures, c.depth.ensures))
+    let first = c.in_default-first_met.ensures.first c.args.path.now (omega (arith, named, c.saturating_sub-n.ensures, c.depth.ensures))
     (subst (λ (n : ℕ). IsSome (fin.get c.self.inside.tree (take n c.args.path.now))) up c.in-Some.ensures.0)
     (c.in-Some.ensures.1 ∙ ap (λ (n : ℕ). row_at c.self.inside.tree (take n c.args.path.now)) up) in
     let met = blocked-is c.self.inside.tree c.self.inside.processes c.args.self.now c.self.view_is c.args.path.now _ first in
@@ -73,14 +61,14 @@ returns-in-None-clause-first g c =
     let groups = len-is c.self.inside.tree c.self.inside.processes c.args.self.now c.self.view_is in
     make_full g.M.Meter.SLOTS c.args.self.now c.args.path.now c.saturating_sub-n.result up absent above met (grind (arith, nat_tests, sym c.is_empty.ensures ∙ c.if-is_empty.true, whole, groups))
 
-pub returns-in-None-2-clause-first : goal.returns-in-None-2-clause-first
-returns-in-None-2-clause-first g c =
+pub returns-clause-first : goal.returns-clause-first
+returns-clause-first g c =
     let absent = group-is c.args.self.now c.self.inside.tree c.self.inside.processes c.self.view_is c.args.path.now ∙ sym (matched c.find_row.result (fin.get c.self.inside.tree c.args.path.now) _ c.find_row.ensures) ∙ sym c.is_some.ensures ∙ c.if-is_some.false in
     let up : c.saturating_sub-n.result ≡ length c.args.path.now - 1 = c.saturating_sub-n.ensures ∙ ap (λ n. n - 1) c.depth.ensures in
     let above = group-is c.args.self.now c.self.inside.tree c.self.inside.processes c.self.view_is (take c.saturating_sub-n.result c.args.path.now) ∙ c.in-Some.ensures.0 in
     let named = has_names c.self.inside.tree c.self.invariant.has_slots.closed c.args.path.now (is_none (fin.get c.self.inside.tree c.args.path.now)
     (sym (matched c.find_row.result (fin.get c.self.inside.tree c.args.path.now) _ c.find_row.ensures) ∙ sym c.is_some.ensures ∙ c.if-is_some.false)) in
-    let first = c.in-None-2.ensures c.args.path.now (omega (arith, named, c.saturating_sub-n.ensures, c.depth.ensures))
+    let first = c.in_default-first_met.ensures.first c.args.path.now (omega (arith, named, c.saturating_sub-n.ensures, c.depth.ensures))
     (subst (λ (n : ℕ). IsSome (fin.get c.self.inside.tree (take n c.args.path.now))) up c.in-Some.ensures.0)
     (c.in-Some.ensures.1 ∙ ap (λ (n : ℕ). row_at c.self.inside.tree (take n c.args.path.now)) up) in
     let met = blocked-is c.self.inside.tree c.self.inside.processes c.args.self.now c.self.view_is c.args.path.now _ first in

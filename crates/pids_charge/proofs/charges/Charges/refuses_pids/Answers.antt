@@ -1,8 +1,8 @@
-use Rattle.std.proofs.Common.{◌≡◌, is_some, ap, subst, ◌∙◌}
+use Rattle.std.proofs.Common.{◌≡◌, Some, is_some, ap, subst, ◌∙◌}
 use Rattle.flat_model.specs.Command.{Fork}
 use Rattle.flat_model.specs.State.{State}
 use Rattle.flat_model.specs.Step.{refusal}
-use Rattle.pids_charge.specs.Answers.{refusal_of_fault}
+use Rattle.pids_charge.specs.Answers.{refusal_along}
 use Rattle.pids_charge.proofs.FlatGroups.{process-is}
 use Rattle.pids_charge.proofs.charges.Charges.refuses_pids.Goals as goal
 
@@ -14,4 +14,4 @@ returns-in-Ok-clause-first g c = (
 
 pub returns-in-Err-clause-first : goal.returns-in-Err-clause-first
 returns-in-Err-clause-first g c = λ p.
-    subst (λ (s : State). refusal g.M.Meter.SLOTS s (Fork c.args.parent c.args.child) ≡ refusal_of_fault p c.in-Err.fault) c.self.view_is (c.in-Err.ensures.first g.M.Meter.SLOTS c.self.inside.tree p)
+    subst (λ (s : State). refusal g.M.Meter.SLOTS s (Fork c.args.parent c.args.child) ≡ Some (refusal_along p c.in-Err.refusal)) c.self.view_is (c.in-Err.ensures.first g.M.Meter.SLOTS c.self.inside.tree p)

@@ -1,4 +1,4 @@
-use Rattle.std.proofs.Common.{◌≡◌, [], Some, option_map, unwrap_or, refl, sym, ◌∙◌, subst}
+use Rattle.std.proofs.Common.{◌≡◌, [], Some, option_map, unwrap_or, refl, sym, ◌∙◌, subst, ap}
 use Rattle.flat_model.specs.Command as model
 use Rattle.flat_model.specs.Step.{refusal}
 use Rattle.undo_journal.specs.CommandMeaning.{refusal_of}
@@ -10,4 +10,4 @@ pub returns-in-Some : goal.returns-in-Some
 returns-in-Some g c =
     refused_answers g.M.Meter.SLOTS c.args.self.now (model.Locate c.args.pid) c.in_ok-refusal.refusal refl refl
     (subst (λ (t : Timeline). refusal g.M.Meter.SLOTS t.machine.state (model.Locate c.args.pid) ≡ Some (refusal_of c.in_ok-refusal.refusal)) c.self.view_is
-    (c.in-Some.ensures.first (unwrap_or (option_map (λ p. p.now) c.home.result) []) ∙ sym c.in_ok-refusal.ensures))
+    (c.in-Some.ensures.first (unwrap_or (option_map (λ p. p.now) c.home.result) []) ∙ ap (λ (r : model.Refusal). Some r) (sym c.in_ok-refusal.ensures)))

@@ -1,4 +1,4 @@
-use Rattle.std.proofs.Common.{◌≡◌, None, Some, refl, sym, ◌∙◌, subst}
+use Rattle.std.proofs.Common.{◌≡◌, None, Some, refl, sym, ◌∙◌, subst, ap}
 use Rattle.flat_model.specs.Command as model
 use Rattle.flat_model.specs.Step.{refusal}
 use Rattle.group_tree.specs.Flat.{limit_of, limit_file_of}
@@ -12,7 +12,7 @@ pub returns-in-Some-clause-ok : goal.returns-in-Some-clause-ok
 returns-in-Some-clause-ok g c =
     refused_answers g.M.Meter.SLOTS c.args.self.now (model.SetLimit c.args.path.now (limit_file_of c.args.file) (limit_of c.args.value)) c.in_ok-refusal.refusal refl refl
     (subst (λ (t : Timeline). refusal g.M.Meter.SLOTS t.machine.state (model.SetLimit c.args.path.now (limit_file_of c.args.file) (limit_of c.args.value)) ≡ Some (refusal_of c.in_ok-refusal.refusal)) c.self.view_is
-    (c.in-Some.ensures.first (limit_of c.args.value) ∙ sym c.in_ok-refusal.ensures))
+    (c.in-Some.ensures.first (limit_of c.args.value) ∙ ap (λ (r : model.Refusal). Some r) (sym c.in_ok-refusal.ensures)))
 
 pub write_limit-requires : goal.write_limit-requires
 write_limit-requires g c =

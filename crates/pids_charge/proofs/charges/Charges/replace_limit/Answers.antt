@@ -9,7 +9,7 @@ use Rattle.pids_charge.proofs.FlatGroups.{group-is}
 use Rattle.pids_charge.proofs.Changes.{changed_slots, slots_stay, charges_stay}
 use Rattle.pids_charge.proofs.InRows.{same_attr}
 use Rattle.pids_charge.proofs.LimitWrites.{limit_no_group, limit_allowed, attr-is, limited-is}
-use Rattle.pids_charge.proofs.charges.Charges.set_limit.Goals as goal
+use Rattle.pids_charge.proofs.charges.Charges.replace_limit.Goals as goal
 
 pub returns-in_default-clause-state : goal.returns-in_default-clause-state
 returns-in_default-clause-state g c =

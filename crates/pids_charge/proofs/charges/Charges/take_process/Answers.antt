@@ -4,7 +4,7 @@ use Rattle.pids_charge.specs.Recount.{state_of}
 use Rattle.pids_charge.proofs.FlatGroups.{home-is, process-is}
 use Rattle.pids_charge.proofs.MeterContents.{one_there, found_placed, taken}
 use Rattle.pids_charge.proofs.ProcessExits.{exit_no_process, exit_allowed, exited-is}
-use Rattle.pids_charge.proofs.charges.Charges.exit.Goals as goal
+use Rattle.pids_charge.proofs.charges.Charges.take_process.Goals as goal
 
 pub returns-in_default-clause-state : goal.returns-in_default-clause-state
 returns-in_default-clause-state g c =
