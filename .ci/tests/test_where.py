@@ -203,7 +203,7 @@ class OfThisRepository(unittest.TestCase):
         answers = [
             answer
             for path in rattle.texts
-            for name, owner in (("copy", "GroupPath"), ("fork", "Charges"), ("depth", "Engine"), ("lock", "Hall"))
+            for name, owner in (("copy", "GroupPath"), ("fork", "Charges"), ("depth", "Engine"), ("lock", "DeskState"))
             for answer in rattle.calls(path, name, owner).values()
         ]
         self.assertGreater(answers.count(True), 40)

@@ -38,7 +38,7 @@ ghost use Rattle.undo_journal.specs.CommandMeaning.{reply_of};
 ghost use Rattle.undo_journal.specs.Timeline.{Timeline};
 ghost use Rattle.pids_charge.specs.declared.plain.TheConstants.{SLOTS};
 ghost use Rattle.sessions.specs.declared.book.Book.{Book};
-ghost use Rattle.sessions.specs.declared.hall.Hall.{Hall};
+ghost use Rattle.sessions.specs.declared.state.DeskState.{DeskState};
 ghost use Rattle.sessions.specs.declared.fault.CloseFault.{CloseFault};
 ghost use Rattle.sessions.specs.declared.fault.CloseFault.TheVariants as fault;
 ghost use Rattle.sessions.specs.declared.fault.RunFault.{RunFault};
@@ -180,20 +180,20 @@ pub fn answers_for_log_and_receipt()
 
 /// A turn is early if the log has fewer entries. It is never early at a halted or closed desk, or after it has passed.
 pub fn turns_that_are_early()
-    ensures exactly { (hall : Hall) (book : Book) (turn : ℕ) → hall.book ≡ Some book
-        → IsEarly hall turn ↔ ((hall.is_halted ≡ false) × (vec_len book.log + 1 ≤ turn)) }
-    ensures closed { (hall : Hall) (turn : ℕ) → hall.book ≡ None → IsEarly hall turn → ⊥ }
-    ensures halted { (hall : Hall) (turn : ℕ) → hall.is_halted ≡ true → IsEarly hall turn → ⊥ }
-    ensures not_late { (hall : Hall) (turn : ℕ) → IsEarly hall turn
-        → IsLate turn (run_fault.TurnPassed (log_len hall)) → ⊥ }
-    ensures no_log { (hall : Hall) → hall.book ≡ None → log_len hall ≡ 0 }
+    ensures exactly { (state : DeskState) (book : Book) (turn : ℕ) → state.book ≡ Some book
+        → IsEarly state turn ↔ ((state.is_halted ≡ false) × (vec_len book.log + 1 ≤ turn)) }
+    ensures closed { (state : DeskState) (turn : ℕ) → state.book ≡ None → IsEarly state turn → ⊥ }
+    ensures halted { (state : DeskState) (turn : ℕ) → state.is_halted ≡ true → IsEarly state turn → ⊥ }
+    ensures not_late { (state : DeskState) (turn : ℕ) → IsEarly state turn
+        → IsLate turn (run_fault.TurnPassed (log_len state)) → ⊥ }
+    ensures no_log { (state : DeskState) → state.book ≡ None → log_len state ≡ 0 }
 {}
 
 /// A turn has come exactly if it is not early: with five entries turn 5 has come, and turn 6 has not. At a halted or closed
 /// desk every turn has come.
 pub fn turns_that_have_come()
-    ensures exactly { (hall : Hall) (turn : ℕ)
-        → HasCome (reached_of hall) turn ↔ (IsEarly hall turn → ⊥) }
+    ensures exactly { (state : DeskState) (turn : ℕ)
+        → HasCome (reached_of state) turn ↔ (IsEarly state turn → ⊥) }
     ensures reached { HasCome (Some 5) 5 }
     ensures next { HasCome (Some 5) 6 → ⊥ }
     ensures halted { HasCome None 6 }
@@ -237,23 +237,23 @@ pub fn turns_that_are_noted()
 /// A desk serves until it is halted or closed. A call returns `Halted` exactly if the desk doesn't serve, and `TurnPassed`
 /// exactly if the log is longer than the turn, with the log's length. A call that ran leaves a log with one more entry.
 pub fn answers_behind_the_lock()
-    ensures serving { (hall : Hall) (book : Book) → hall.book ≡ Some book
-        → IsServing hall ↔ (hall.is_halted ≡ false) }
-    ensures closed { (hall : Hall) → hall.book ≡ None → IsServing hall → ⊥ }
-    ensures halted { (hall : Hall)
-        → Answer hall (Err run_fault.Halted) ↔ (IsServing hall → ⊥) }
-    ensures halted_at { (turn : ℕ) (hall : Hall)
-        → AnswerAt turn hall (Err run_fault.Halted) ↔ (IsServing hall → ⊥) }
-    ensures passed { (turn len : ℕ) (hall : Hall)
-        → AnswerAt turn hall (Err (run_fault.TurnPassed len))
-        ↔ (IsServing hall × (len ≡ log_len hall) × (turn + 1 ≤ len)) }
-    ensures never { (len : ℕ) (hall : Hall) → Answer hall (Err (run_fault.TurnPassed len)) → ⊥ }
-    ensures in_turn { (turn : ℕ) (hall : Hall) (u : Unit {0})
-        → AnswerAt turn hall (Ok u) ↔ (IsServing hall × (log_len hall ≡ turn)) }
-    ensures longer { (session : ℕ) (c : model.Command) (before after : Hall) (rs more : List Receipt)
+    ensures serving { (state : DeskState) (book : Book) → state.book ≡ Some book
+        → IsServing state ↔ (state.is_halted ≡ false) }
+    ensures closed { (state : DeskState) → state.book ≡ None → IsServing state → ⊥ }
+    ensures halted { (state : DeskState)
+        → Answer state (Err run_fault.Halted) ↔ (IsServing state → ⊥) }
+    ensures halted_at { (turn : ℕ) (state : DeskState)
+        → AnswerAt turn state (Err run_fault.Halted) ↔ (IsServing state → ⊥) }
+    ensures passed { (turn len : ℕ) (state : DeskState)
+        → AnswerAt turn state (Err (run_fault.TurnPassed len))
+        ↔ (IsServing state × (len ≡ log_len state) × (turn + 1 ≤ len)) }
+    ensures never { (len : ℕ) (state : DeskState) → Answer state (Err (run_fault.TurnPassed len)) → ⊥ }
+    ensures in_turn { (turn : ℕ) (state : DeskState) (u : Unit {0})
+        → AnswerAt turn state (Ok u) ↔ (IsServing state × (log_len state ≡ turn)) }
+    ensures longer { (session : ℕ) (c : model.Command) (before after : DeskState) (rs more : List Receipt)
         → Served session c before after rs more
         → length (log_in after.book) ≡ length (log_in before.book) + 1 }
-    ensures receipt { (session : ℕ) (c : model.Command) (before after : Hall) (rs more : List Receipt)
+    ensures receipt { (session : ℕ) (c : model.Command) (before after : DeskState) (rs more : List Receipt)
         → Served session c before after rs more → AppendsAt (log_len before) c rs more }
 {}
 

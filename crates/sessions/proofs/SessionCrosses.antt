@@ -21,7 +21,7 @@ use Rattle.board_meter.proofs.meter.BoardMeter.TheSendSync as meter
 use Rattle.sessions.proofs.entry.Entry.TheSendSync as entry
 use Rattle.sessions.proofs.entry.Receipt.TheSendSync as receipt
 use Rattle.sessions.specs.contracts.book.Book as Book
-use Rattle.sessions.specs.contracts.hall.Hall as Hall
+use Rattle.sessions.specs.contracts.state.DeskState as DeskState
 use Rattle.sessions.specs.contracts.shared.Shared as Shared
 use Rattle.sessions.specs.contracts.session.Session as Session
 use Rattle.sessions.specs.contracts.desk.Desk as Desk
@@ -51,7 +51,7 @@ book_send = search (
   maps.crosses,
 ) depth 24
 
-hall_send : IsSend Hall.the_row
+hall_send : IsSend DeskState.the_row
 hall_send = search (book_send, sendable, crosses) depth 20
 
 shared_send : IsSend Shared.the_row

@@ -9,7 +9,7 @@ use Rattle.undo_journal.specs.Timeline.{Timeline, becomes}
 use Rattle.sessions.specs.declared.fault.RunFault.{RunFault}
 use Rattle.sessions.specs.declared.fault.RunFault.TheVariants.{OutOfMemory, TurnPassed, Halted}
 use Rattle.sessions.specs.declared.book.Book.{Book}
-use Rattle.sessions.specs.declared.hall.Hall.{Hall}
+use Rattle.sessions.specs.declared.state.DeskState.{DeskState}
 use Rattle.sessions.specs.SessionMeaning.{slots}
 
 -- on this command the machine makes its step, both replies are its reply, and nothing is forgotten
@@ -43,7 +43,7 @@ abbrev pub book_len : Option Book → ℕ
 book_len (Some b) = vec_len b.log
 book_len None = 0
 
-abbrev pub log_len : Hall → ℕ
+abbrev pub log_len : DeskState → ℕ
 log_len h = book_len h.book
 
 abbrev pub IsEarlyFor : Option Book → Bool → ℕ → Type 0
@@ -51,7 +51,7 @@ IsEarlyFor (Some b) halted turn = (halted ≡ false) × (vec_len b.log < turn)
 IsEarlyFor None halted turn = ⊥
 
 -- the turn has not come yet
-abbrev pub IsEarly : Hall → ℕ → Type 0
+abbrev pub IsEarly : DeskState → ℕ → Type 0
 IsEarly h turn = IsEarlyFor h.book h.is_halted turn
 
 abbrev pub reached_in : Option Book → Bool → Option ℕ
@@ -60,7 +60,7 @@ reached_in (Some b) true = None
 reached_in None halted = None
 
 -- the length of the log, or none if the desk is halted or closed
-abbrev pub reached_of : Hall → Option ℕ
+abbrev pub reached_of : DeskState → Option ℕ
 reached_of h = reached_in h.book h.is_halted
 
 -- ---- how a call leaves the value behind the lock, and its result by what it found there
@@ -80,16 +80,16 @@ log_in (Some b) = b.log.items
 log_in None = []
 
 -- engine and log are unchanged, and so are the turns that are waited for and whether the desk is halted
-abbrev pub IsSame : Hall → Hall → Type 0
+abbrev pub IsSame : DeskState → DeskState → Type 0
 IsSame before after = (pages_of after.book ≡ pages_of before.book) × (after.waits ≡ before.waits) × (after.is_halted ≡ before.is_halted)
 
 -- nothing has changed but the turns that are waited for
-abbrev pub IsBut : Hall → Hall → Type 0
+abbrev pub IsBut : DeskState → DeskState → Type 0
 IsBut before after = after ≡ record before { waits = after.waits }
 
 -- this session ran this command: the log has one more entry, which is of the session, and its receipt, with that number, follows the
 -- session's others; the turns that are waited for are unchanged
-pub record Served (session : ℕ) (c : model.Command) (before after : Hall) (receipts more : List Receipt) : Type 0 where
+pub record Served (session : ℕ) (c : model.Command) (before after : DeskState) (receipts more : List Receipt) : Type 0 where
   pub receipt : Receipt
   pub command : receipt.command ≡ c
   pub number : receipt.number ≡ log_len before
@@ -103,18 +103,18 @@ IsServingFor (Some b) halted = halted ≡ false
 IsServingFor None halted = ⊥
 
 -- the desk is neither halted nor closed
-abbrev pub IsServing : Hall → Type 0
+abbrev pub IsServing : DeskState → Type 0
 IsServing h = IsServingFor h.book h.is_halted
 
 -- the result of a call: `Halted` exactly if the desk is halted or closed
-abbrev pub Answer : Hall → Result (Unit {0}) RunFault → Type 0
+abbrev pub Answer : DeskState → Result (Unit {0}) RunFault → Type 0
 Answer h (Ok u) = IsServing h
 Answer h (Err Halted) = IsServing h → ⊥
 Answer h (Err (TurnPassed len)) = ⊥
 Answer h (Err OutOfMemory) = IsServing h
 
 -- the same at a turn, and `TurnPassed` exactly if the log is longer, with its length
-abbrev pub AnswerAt : ℕ → Hall → Result (Unit {0}) RunFault → Type 0
+abbrev pub AnswerAt : ℕ → DeskState → Result (Unit {0}) RunFault → Type 0
 AnswerAt turn h (Ok u) = IsServing h × (log_len h ≡ turn)
 AnswerAt turn h (Err Halted) = IsServing h → ⊥
 AnswerAt turn h (Err (TurnPassed len)) = IsServing h × (len ≡ log_len h) × (turn < len)

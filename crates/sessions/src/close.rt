@@ -69,9 +69,9 @@ impl Desk {
         ensures receipts { IfOk result (λ b. AreEntries self.now.sessions b.log.items sessions.now) }
         ensures fault { IfErr result (λ f. IsRefused self.now.sessions sessions.now f) }
     {
-        let mut hall = self.shared.hall.lock(rt);
-        let taken = hall.take_book(self.alloc, self.sessions, sessions);
-        self.shared.leave(hall);
+        let mut state = self.shared.state.lock(rt);
+        let taken = state.take_book(self.alloc, self.sessions, sessions);
+        self.shared.leave(state);
         taken
     }
 }

@@ -3,9 +3,9 @@
 ghost use Rattle.std.specs.Prelude.{◌≡◌, ◌<◌, ◌≤◌, [], IfOk, IfSome};
 
 use crate::book::Book;
-use crate::hall::Hall;
 use crate::session::Session;
 use crate::shared::Shared;
+use crate::state::DeskState;
 use crate::waits::Waits;
 use std::alloc::{AllocError, Global};
 use std::marker::Model;
@@ -52,12 +52,12 @@ impl Desk {
         requires { (1 ≤ n) × (n ≤ 8) }
         ensures { IfOk result (λ d. d.sessions ≡ n) }
     {
-        let hall = Hall {
+        let state = DeskState {
             book: Some(Book::new(alloc, entries)?),
             is_halted: false,
             waits: Waits::none(),
         };
-        let shared = Arc::new(alloc, Shared::new(hall))?;
+        let shared = Arc::new(alloc, Shared::new(state))?;
         Ok(Desk {
             sessions: n,
             alloc,
@@ -89,7 +89,7 @@ impl Desk {
     pub fn wait_for<R: Wait>(&self, rt: &R, sleeper: u8, turn: u64) -> Option<u64>
         ensures { IfSome result (λ len. turn ≤ len) }
     {
-        let hall = self.shared.wait_for(rt, sleeper, turn);
-        hall.reached()
+        let state = self.shared.wait_for(rt, sleeper, turn);
+        state.reached()
     }
 }

@@ -23,7 +23,7 @@
 //!   of the desk then returns `Missing`. A session that waits for a turn waits until the log is
 //!   long enough, whichever session extends it. If no session extends it, `halt` ends the wait.
 //!
-//! No public clause can name the value behind the lock. The private calls of `Hall` and `Book`,
+//! No public clause can name the value behind the lock. The private calls of `DeskState` and `Book`,
 //! which borrow it, say how each result leaves engine, log and halt: either the log has one more
 //! entry, of this session and with its receipt, or nothing has changed. No clause says that each
 //! public call passes the locked value to them, and unlocks it as they left it.
@@ -45,9 +45,9 @@ mod close;
 mod desk;
 mod entry;
 mod fault;
-mod hall;
 mod session;
 mod shared;
+mod state;
 mod step;
 mod turns;
 mod waits;

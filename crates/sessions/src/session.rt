@@ -8,8 +8,8 @@ ghost use Rattle.undo_journal.specs.CommandMeaning.{command_of};
 ghost use Rattle.sessions.specs.Receipts.{AddsReceipt, AddsReceiptAt, Last, LastAt};
 ghost use Rattle.sessions.specs.Served.{IsEarly, IsLate, NamesNoTurn};
 
-use crate::hall::Hall;
 use crate::shared::Shared;
+use crate::state::DeskState;
 use crate::{Desk, Receipt, RunFault};
 use std::alloc::Allocator;
 use std::marker::Model;
@@ -103,9 +103,9 @@ impl Session {
     pub fn halt<R: Wait>(&mut self, rt: &R)
         ensures { self.new ≡ self.old }
     {
-        let mut hall = self.shared.hall.lock(rt);
-        hall.halt();
-        self.shared.leave(hall);
+        let mut state = self.shared.state.lock(rt);
+        state.halt();
+        self.shared.leave(state);
     }
 
     fn serve<R: Threads + Wait + Sync, B: Allocator + Clone>(
@@ -122,9 +122,9 @@ impl Session {
             receipts,
             shared,
         } = self;
-        let mut hall = shared.hall.lock(rt);
-        let outcome = hall.serve(rt, *number, cmd, receipts);
-        shared.leave(hall);
+        let mut state = shared.state.lock(rt);
+        let outcome = state.serve(rt, *number, cmd, receipts);
+        shared.leave(state);
         outcome
     }
 
@@ -143,24 +143,24 @@ impl Session {
             receipts,
             shared,
         } = self;
-        let mut hall = shared.wait_for(rt, *number, turn);
-        let outcome = hall.serve_at(rt, *number, turn, cmd, receipts);
-        shared.leave(hall);
+        let mut state = shared.wait_for(rt, *number, turn);
+        let outcome = state.serve_at(rt, *number, turn, cmd, receipts);
+        shared.leave(state);
         outcome
     }
 
-    /// Runs a command at this turn in the hall of the session's desk, and returns the next turn.
+    /// Runs a command at this turn in the state of the session's desk, and returns the next turn.
     pub(crate) fn serve_in<R: Threads + Wait + Sync, B: Allocator + Clone>(
         &mut self,
         rt: &R,
-        hall: &mut Hall,
+        state: &mut DeskState,
         turn: u64,
         cmd: &Command<B>,
     ) -> Result<u64, RunFault>
-        requires { ¬ IsEarly hall.old turn }
+        requires { ¬ IsEarly state.old turn }
         ensures ran { MatchResult result (λ _. LastAt turn (command_of cmd.now) self.old self.new)
             (λ _. self.new ≡ self.old) }
-        ensures next { IfOk result (λ next. (next ≡ turn + 1) × (¬ IsEarly hall.new next)) }
+        ensures next { IfOk result (λ next. (next ≡ turn + 1) × (¬ IsEarly state.new next)) }
         ensures late { IfErr result (λ e. IsLate turn e) }
     {
         let Session {
@@ -168,6 +168,6 @@ impl Session {
             receipts,
             shared: _,
         } = self;
-        hall.serve_turn(rt, *number, turn, cmd, receipts)
+        state.serve_turn(rt, *number, turn, cmd, receipts)
     }
 }

@@ -1,4 +1,4 @@
-//! What a desk and its sessions share: the hall behind its lock, and how a session waits for a
+//! What a desk and its sessions share: the state behind its lock, and how a session waits for a
 //! turn.
 
 ghost use Rattle.std.specs.Sync.Mutex.{mutex_guard_value};
@@ -6,20 +6,20 @@ ghost use Rattle.std.specs.Prelude.{◌%◌, None, slice_index_or};
 ghost use Rattle.sessions.specs.Served.{IsEarly};
 ghost use Rattle.sessions.specs.Waits.{IsWoken};
 
-use crate::hall::Hall;
+use crate::state::DeskState;
 use std::sync::{Condvar, Mutex, MutexGuard, Wait};
 
-/// The hall behind its lock, and for each session the condition variable on which it sleeps.
+/// The state behind its lock, and for each session the condition variable on which it sleeps.
 #[derive(Drop)]
 pub(crate) struct Shared {
-    pub(crate) hall: Mutex<Hall>,
+    pub(crate) state: Mutex<DeskState>,
     woken: [Condvar; 8],
 }
 
 impl Shared {
-    pub(crate) fn new(hall: Hall) -> Shared {
+    pub(crate) fn new(state: DeskState) -> Shared {
         Shared {
-            hall: Mutex::new(hall),
+            state: Mutex::new(state),
             woken: [
                 Condvar::new(),
                 Condvar::new(),
@@ -35,15 +35,20 @@ impl Shared {
 
     /// Waits for the turn. It sleeps at once, because a session that polls slows the sessions whose
     /// turns come first.
-    pub(crate) fn wait_for<R: Wait>(&self, rt: &R, session: u8, turn: u64) -> MutexGuard<'_, Hall>
+    pub(crate) fn wait_for<R: Wait>(
+        &self,
+        rt: &R,
+        session: u8,
+        turn: u64,
+    ) -> MutexGuard<'_, DeskState>
         ensures { ¬ IsEarly (mutex_guard_value result) turn }
     {
-        let mut hall = self.hall.lock(rt);
+        let mut state = self.state.lock(rt);
         for _ in rt.forever() {
-            if !hall.must_wait(session, turn) {
-                return hall;
+            if !state.must_wait(session, turn) {
+                return state;
             }
-            hall = self.sleep(rt, hall, session, turn);
+            state = self.sleep(rt, state, session, turn);
         }
         unreachable!()
     }
@@ -53,18 +58,18 @@ impl Shared {
     fn sleep<'a, R: Wait>(
         &self,
         rt: &R,
-        hall: MutexGuard<'a, Hall>,
+        state: MutexGuard<'a, DeskState>,
         session: u8,
         turn: u64,
-    ) -> MutexGuard<'a, Hall>
-        requires { IsWoken turn (slice_index_or (mutex_guard_value hall).waits (session % 8) None) }
+    ) -> MutexGuard<'a, DeskState>
+        requires { IsWoken turn (slice_index_or (mutex_guard_value state).waits (session % 8) None) }
     {
         let _ = turn;
-        self.woken[usize::from(session % 8)].wait(rt, hall)
+        self.woken[usize::from(session % 8)].wait(rt, state)
     }
 
-    /// Unlocks the hall, and wakes the sessions whose turns have come.
-    pub(crate) fn leave(&self, guard: MutexGuard<'_, Hall>) {
+    /// Unlocks the state, and wakes the sessions whose turns have come.
+    pub(crate) fn leave(&self, guard: MutexGuard<'_, DeskState>) {
         let mut guard = guard;
         let due = guard.take_due();
         drop(guard);

@@ -5,7 +5,7 @@ ghost use Rattle.undo_journal.specs.CommandMeaning.{command_of};
 ghost use Rattle.sessions.specs.Served.{IsEarly, IsLate};
 ghost use Rattle.sessions.specs.Turns.{TakeSomeTurns, TakeTurns, TakesTurn};
 
-use crate::hall::Hall;
+use crate::state::DeskState;
 use crate::{Desk, RunFault, Session};
 use std::alloc::Allocator;
 use std::sync::Wait;
@@ -17,8 +17,8 @@ impl Desk {
     /// `turn + i`. The session at the index of a command's turn, modulo their number, runs it and
     /// gets its receipt. No other command runs in between, since the call locks the desk once.
     ///
-    /// The sessions are those of this desk; otherwise neither desk can be closed. `sleeper` selects
-    /// a condition variable as in `wait_for`.
+    /// The sessions are those of this desk: a receipt is for this desk's log, whichever desk opened
+    /// its session. `sleeper` selects a condition variable as in `wait_for`.
     ///
     /// # Errors
     ///
@@ -37,9 +37,9 @@ impl Desk {
             (λ _. TakeSomeTurns turn (map command_of cmds.now) sessions.old sessions.new) }
         ensures late { IfErr result (λ e. IsLate turn e) }
     {
-        let mut hall = self.shared.wait_for(rt, sleeper, turn);
-        let outcome = serve_turns(rt, &mut hall, turn, sessions, cmds);
-        self.shared.leave(hall);
+        let mut state = self.shared.wait_for(rt, sleeper, turn);
+        let outcome = serve_turns(rt, &mut state, turn, sessions, cmds);
+        self.shared.leave(state);
         outcome
     }
 }
@@ -47,13 +47,13 @@ impl Desk {
 /// Runs these commands in a row, the first at this turn.
 fn serve_turns<R: Threads + Wait + Sync, B: Allocator + Clone>(
     rt: &R,
-    hall: &mut Hall,
+    state: &mut DeskState,
     turn: u64,
     sessions: &mut [Session],
     cmds: &[Command<B>],
 ) -> Result<(), RunFault>
     requires some { 0 < length sessions.old }
-    requires early { ¬ IsEarly hall.old turn }
+    requires early { ¬ IsEarly state.old turn }
     ensures ran { MatchResult result
         (λ _. TakeTurns turn (map command_of cmds.now) sessions.old sessions.new)
         (λ _. TakeSomeTurns turn (map command_of cmds.now) sessions.old sessions.new) }
@@ -61,7 +61,7 @@ fn serve_turns<R: Threads + Wait + Sync, B: Allocator + Clone>(
 {
     let mut next = turn;
     for cmd in cmds {
-        next = serve_turn(rt, hall, next, sessions, cmd)?;
+        next = serve_turn(rt, state, next, sessions, cmd)?;
     }
     Ok(())
 }
@@ -69,20 +69,20 @@ fn serve_turns<R: Threads + Wait + Sync, B: Allocator + Clone>(
 /// Runs a command at this turn, by the session whose turn it is, and returns the next turn.
 fn serve_turn<R: Threads + Wait + Sync, B: Allocator + Clone>(
     rt: &R,
-    hall: &mut Hall,
+    state: &mut DeskState,
     turn: u64,
     sessions: &mut [Session],
     cmd: &Command<B>,
 ) -> Result<u64, RunFault>
     requires some { 0 < length sessions.old }
-    requires early { ¬ IsEarly hall.old turn }
+    requires early { ¬ IsEarly state.old turn }
     ensures ran { MatchResult result
         (λ _. TakesTurn turn (command_of cmd.now) sessions.old sessions.new)
         (λ _. sessions.new ≡ sessions.old) }
-    ensures next { IfOk result (λ next. (next ≡ turn + 1) × (¬ IsEarly hall.new next)) }
+    ensures next { IfOk result (λ next. (next ≡ turn + 1) × (¬ IsEarly state.new next)) }
     ensures late { IfErr result (λ e. IsLate turn e) }
 {
     let at = (turn % sessions.len() as u64) as usize;
     let session = &mut sessions[at];
-    session.serve_in(rt, hall, turn, cmd)
+    session.serve_in(rt, state, turn, cmd)
 }

@@ -29,14 +29,14 @@ use undo_journal::Command;
 
 /// The book, until the desk is closed, and the turns that sessions wait for.
 #[derive(Drop)]
-pub(crate) struct Hall {
+pub(crate) struct DeskState {
     pub(crate) book: Option<Book>,
     pub(crate) is_halted: bool,
     /// For each session number the least turn that is waited for, if any.
     pub(crate) waits: Waits,
 }
 
-impl Hall {
+impl DeskState {
     /// Whether a call for this turn has to wait.
     pub(crate) fn is_early(&self, turn: u64) -> bool
         ensures { IsTrue result ↔ IsEarly self.now turn }
