@@ -209,8 +209,8 @@ one_outcome slots s from child peaks p q new other made counted =
 
 pub made_or_refused : (slots : ℕ) (s : State) (from child : ℕ) (peaks : List ℕ) (r : ChargeRefusal) (new other : State)
     → ForksTo {A = ℕ} slots s from child (fork.Made peaks) new → ForksTo {A = ℕ} slots s from child (fork.Refused r) other → ⊥
-made_or_refused slots s from child peaks r new other made no =
-    let both : None ≡ Some (refusal_along [] r) = sym made.0 ∙ (no.0 []).0 in cc
+made_or_refused slots s from child peaks r new other made denied =
+    let both : None ≡ Some (refusal_along [] r) = sym made.0 ∙ (denied.0 []).0 in cc
 
 -- the count of a refusal
 abbrev counts : Option model.Refusal → Bool
@@ -219,8 +219,8 @@ counts (Some r) = is_counted r
 
 pub counted_or_not : (slots : ℕ) (s : State) (from child : ℕ) (p q : Path) (r : ChargeRefusal) (new other : State)
     → ForksTo {A = ℕ} slots s from child (fork.Counted p q) new → ForksTo {A = ℕ} slots s from child (fork.Refused r) other → ⊥
-counted_or_not slots s from child p q r new other counted no =
-    let both : true ≡ false = ap counts (sym counted.0 ∙ (no.0 []).0) ∙ (no.0 []).1 in cc
+counted_or_not slots s from child p q r new other counted denied =
+    let both : true ≡ false = ap counts (sym counted.0 ∙ (denied.0 []).0) ∙ (denied.0 []).1 in cc
 
 -- ---- a move
 pub moved_is : (slots : ℕ) (m : Machine) (pid : ℕ) (p to : Path) (left : Shifted ℕ) (new : State)
@@ -233,5 +233,5 @@ move_refused_is slots m pid p r new h = (h.2, ap (λ (o : Option model.Refusal).
 
 pub moved_or_refused : (slots : ℕ) (s : State) (pid : ℕ) (p to : Path) (left : Shifted ℕ) (r : ChargeRefusal) (new other : State)
     → MovesTo slots s pid p (move.Moved to left) new → MovesTo {A = ℕ} slots s pid p (move.Refused r) other → ⊥
-moved_or_refused slots s pid p to left r new other moved no =
-    let both : None ≡ Some (refusal_along p r) = sym moved.0 ∙ no.0 in cc
+moved_or_refused slots s pid p to left r new other moved denied =
+    let both : None ≡ Some (refusal_along p r) = sym moved.0 ∙ denied.0 in cc

@@ -26,7 +26,7 @@ fork_or_count-requires g c = λ on.
 made : (g : _) (c : goal.In_ok-push-in-Made g)
     → HasRecorded g.M.Meter.SLOTS c.self.inside.forgotten (timeline_of c.self.inside.forgotten c.self.inside.charges c.self.inside.journal.items) c.fork_or_count.new.self c.push.new.self.items (model.Fork c.args.parent c.args.child)
 made g c =
-    let forked = rw c.in-Made.is at c.in_ok-fork_or_count.ensures.forked in
+    let forked = rw c.in-Made.is at c.in_ok-peaks.ensures.forked in
     has_recorded g.M.Meter.SLOTS c.self.inside.forgotten (timeline_of c.self.inside.forgotten c.self.inside.charges c.self.inside.journal.items)
     c.self.inside.charges c.fork_or_count.new.self c.self.inside.journal.items c.push.new.self.items
     (record { command = Fork c.args.parent c.args.child; inverse = Forked c.args.child c.in-Made.peaks })
@@ -43,7 +43,7 @@ pub returns-in_ok-push-in-Made-clause-ok : goal.returns-in_ok-push-in-Made-claus
 returns-in_ok-push-in-Made-clause-ok g c =
     let new = timeline_of c.self.inside.forgotten c.fork_or_count.new.self c.push.new.self.items in
     let command = model.Fork c.args.parent c.args.child in
-    let forked = rw c.in-Made.is at c.in_ok-fork_or_count.ensures.forked in
+    let forked = rw c.in-Made.is at c.in_ok-peaks.ensures.forked in
     subst (λ (t : Timeline). Answers {A = g.row.A.Denot} g.M.Meter.SLOTS t command Done new) c.self.view_is
     (answers_by g.M.Meter.SLOTS (timeline_of c.self.inside.forgotten c.self.inside.charges c.self.inside.journal.items) command None Done new refl forked.0 (made g c).timeline refl)
 
@@ -57,11 +57,11 @@ journal_is g c = c.in_ok-push-in-Counted.ensures.items ∙ ap (λ js. js ++ entr
 
 entry_is : (g : _) (c : goal.In_ok-push-in-Counted g)
     → ◌≡◌ {A = model.Command × model_inverse.Inverse} (journal_entry (entry g c)) (model.Fork c.args.parent c.args.child, model_inverse.Counted c.in-Counted.path)
-entry_is g c = λ i. (model.Fork c.args.parent c.args.child, model_inverse.Counted ((rw c.in-Counted.is at c.in_ok-fork_or_count.ensures.forked).2 i))
+entry_is g c = λ i. (model.Fork c.args.parent c.args.child, model_inverse.Counted ((rw c.in-Counted.is at c.in_ok-peaks.ensures.forked).2 i))
 
 pub invariant_of-self-in-Counted : goal.invariant_of-self-in-Counted
 invariant_of-self-in-Counted g c =
-    let forked = rw c.in-Counted.is at c.in_ok-fork_or_count.ensures.forked in
+    let forked = rw c.in-Counted.is at c.in_ok-peaks.ensures.forked in
     let path = c.in-Counted.path in
     rw (journal_is g c)
     (recorded_history g.M.Meter.SLOTS c.self.inside.charges c.fork_or_count.new.self c.self.inside.journal.items (entry g c)
@@ -72,7 +72,7 @@ pub returns-in_ok-push-in-Counted-clause-ok : goal.returns-in_ok-push-in-Counted
 returns-in_ok-push-in-Counted-clause-ok g c =
     let s = c.self.inside.charges in
     let command = model.Fork c.args.parent c.args.child in
-    let forked = rw c.in-Counted.is at c.in_ok-fork_or_count.ensures.forked in
+    let forked = rw c.in-Counted.is at c.in_ok-peaks.ensures.forked in
     let path = c.in-Counted.path in
     let over = Some (model.OverPidsMax path) in
     let new = timeline_of c.self.inside.forgotten c.fork_or_count.new.self c.push-in-Counted.new.self.items in

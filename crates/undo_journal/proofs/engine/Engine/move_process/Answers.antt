@@ -13,27 +13,28 @@ use Rattle.undo_journal.proofs.RefusalReplies.{answers_by}
 use Rattle.undo_journal.proofs.engine.Engine.move_process.Goals as goal
 
 -- what was pushed is the record of the command
-made : (g : _) (c : goal.In_ok-push-in-Ok g)
+made : (g : _) (c : goal.In_ok-push-in-Moved g)
     → HasRecorded g.M.Meter.SLOTS c.self.inside.forgotten (timeline_of c.self.inside.forgotten c.self.inside.charges c.self.inside.journal.items) c.move_process.new.self c.push.new.self.items (model.Move c.args.path.now c.args.pid)
 made g c =
+    let moved = rw c.in-Moved.is at c.in_ok-to.ensures.moved in
     has_recorded g.M.Meter.SLOTS c.self.inside.forgotten (timeline_of c.self.inside.forgotten c.self.inside.charges c.self.inside.journal.items)
     c.self.inside.charges c.move_process.new.self c.self.inside.journal.items c.push.new.self.items
-    (record { command = Move c.in-Ok.moved.to c.args.pid; inverse = Moved c.args.pid c.in-Ok.moved.left.path c.in-Ok.moved.left.peaks })
+    (record { command = Move c.in-Moved.to c.args.pid; inverse = Moved c.args.pid c.in-Moved.left.path c.in-Moved.left.peaks })
     (model.Move c.args.path.now c.args.pid)
     (model_inverse.Moved c.args.pid (home_of c.self.inside.charges c.args.pid) (peaks_upward c.self.inside.charges c.args.path.now))
-    refl c.self.invariant c.reserve.ensures.items c.in_ok-push-in-Ok.ensures.items
+    refl c.self.invariant c.reserve.ensures.items c.in_ok-push-in-Moved.ensures.items
     (λ i. (
-      model.Move ((rw c.in-Ok.is at c.move_process.ensures.new_home) i) c.args.pid,
-      model_inverse.Moved c.args.pid ((rw c.in-Ok.is at c.move_process.ensures.old_home) i) ((rw c.in-Ok.is at c.move_process.ensures.peaks) i),
+      model.Move (moved.2 i) c.args.pid,
+      model_inverse.Moved c.args.pid (moved.3 i) (moved.4 i),
     ))
-    ((rw c.in-Ok.is at c.move_process.ensures.state).0) refl ((rw c.in-Ok.is at c.move_process.ensures.state).1)
+    moved.0 refl moved.1
 
-pub invariant_of-self-in-Ok : goal.invariant_of-self-in-Ok
-invariant_of-self-in-Ok g c = (made g c).history
+pub invariant_of-self-in-Moved : goal.invariant_of-self-in-Moved
+invariant_of-self-in-Moved g c = (made g c).history
 
-pub returns-in_ok-push-in-Ok-clause-ok : goal.returns-in_ok-push-in-Ok-clause-ok
-returns-in_ok-push-in-Ok-clause-ok g c =
+pub returns-in_ok-push-in-Moved-clause-ok : goal.returns-in_ok-push-in-Moved-clause-ok
+returns-in_ok-push-in-Moved-clause-ok g c =
     let new = timeline_of c.self.inside.forgotten c.move_process.new.self c.push.new.self.items in
     let command = model.Move c.args.path.now c.args.pid in
     subst (λ (t : Timeline). Answers {A = g.row.A.Denot} g.M.Meter.SLOTS t command Done new) c.self.view_is
-    (answers_by g.M.Meter.SLOTS (timeline_of c.self.inside.forgotten c.self.inside.charges c.self.inside.journal.items) command None Done new refl ((rw c.in-Ok.is at c.move_process.ensures.state).0) (made g c).timeline refl)
+    (answers_by g.M.Meter.SLOTS (timeline_of c.self.inside.forgotten c.self.inside.charges c.self.inside.journal.items) command None Done new refl (rw c.in-Moved.is at c.in_ok-to.ensures.moved).0 (made g c).timeline refl)
