@@ -67,7 +67,7 @@ fn make_new<A: Allocator + Clone>(
 
 /// Makes the call, and appends its answer.
 #[tactic(auto, using(crate::proofs::CallBounds::up_more))]
-fn answer<R: Threads, A: Allocator + Clone>(
+fn answer<R: Threads + Wait, A: Allocator + Clone>(
     rt: &R,
     alloc: Global,
     tested: &mut Tested<A>,

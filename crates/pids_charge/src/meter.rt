@@ -7,6 +7,7 @@ ghost use Rattle.pids_charge.specs.Parts.{in_parts};
 
 use crate::gate::Gate;
 use snzi_tokens::Token;
+use std::sync::Wait;
 use std::thread::Threads;
 
 /// The most charges that a meter may hold: 2^40 - 8.
@@ -65,7 +66,7 @@ pub trait Meter {
     /// Removes the leaving charges and adds the arriving ones, in as many parts as `part_count` says. A part does one run of
     /// each list (`last_run`), the leaving ones first. Before that it calls the test hook, even if its runs are empty. The
     /// result is the same for any number of parts. It refuses nothing. It may wait for the threads that do parts.
-    fn settle<R: Threads>(
+    fn settle<R: Threads + Wait>(
         &mut self,
         rt: &R,
         gate: &(dyn Gate + Sync),

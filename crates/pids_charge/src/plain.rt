@@ -11,6 +11,7 @@ use crate::parts::{last_run, part_count};
 use snzi_tokens::Token;
 use std::alloc::{AllocError, Allocator};
 use std::marker::Model;
+use std::sync::Wait;
 use std::thread::Threads;
 use striped_adder::Stripes;
 
@@ -200,7 +201,7 @@ impl<A: Allocator> Meter for PlainMeter<A> {
         self.rows[slot as usize].populated()
     }
 
-    fn settle<R: Threads>(
+    fn settle<R: Threads + Wait>(
         &mut self,
         _rt: &R,
         gate: &(dyn Gate + Sync),

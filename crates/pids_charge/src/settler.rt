@@ -6,6 +6,7 @@ ghost use Rattle.snzi_tokens.specs.Listed.{IsWithin, listed_at};
 use crate::gate::Gate;
 use crate::meter::{HELD_MAX, Meter};
 use snzi_tokens::Token;
+use std::sync::Wait;
 use std::thread::Threads;
 
 /// Settles charges at any meter.
@@ -40,7 +41,7 @@ pub struct WithThreads<'a, R, G> {
 }
 
 /// A settler by this runtime and test hook.
-pub fn with_threads<'a, R: Threads>(
+pub fn with_threads<'a, R: Threads + Wait>(
     rt: &'a R,
     gate: &'a (dyn Gate + Sync),
 ) -> WithThreads<'a, R, &'a (dyn Gate + Sync)>
@@ -49,7 +50,7 @@ pub fn with_threads<'a, R: Threads>(
     WithThreads { rt, gate }
 }
 
-impl<'a, R: Threads> Settler for WithThreads<'a, R, &'a (dyn Gate + Sync)> {
+impl<'a, R: Threads + Wait> Settler for WithThreads<'a, R, &'a (dyn Gate + Sync)> {
     fn settle<M: Meter>(&self, meter: &mut M, stripe: u8, leaving: &[Token], arriving: &[Token]) {
         meter.settle(self.rt, self.gate, stripe, leaving, arriving);
     }
