@@ -1,5 +1,6 @@
 -- The number and the place of the first fault of a text that is not a path.
-use Rattle.std.specs.Prelude.{ℕ, ◌+◌, ◌==◌, ◌||◌, cond, List, [], ◌∷◌, length, Option, Some, None, is_some}
+use Rattle.std.specs.Prelude.{ℕ, ◌+◌, ◌==◌, nat_lt, cond, min, List, length, take, sum_by, Option, Some, None, is_some}
+use Rattle.std.specs.List.{position_or_len}
 use Rattle.std.specs.Option.{option_and_then}
 use Rattle.flat_model.specs.Path.{Name}
 use Rattle.flat_model.specs.PathText.{depth_max, text_max, name_fault, names_in, path_fault}
@@ -20,24 +21,28 @@ number_of NameTooLong = 6
 number_of DotName = 7
 number_of Reserved = 8
 
--- the index of the first name with a fault, or of the first name too many; 0 if there is none. The first of the names is at
--- index `here`, after `count` others.
-abbrev pub faulty_name : ℕ → ℕ → List Name → ℕ
-faulty_name count here [] = 0
-faulty_name count here (name ∷ names) =
-    cond (count == depth_max || is_some (name_fault here name)) here
-    (faulty_name (count + 1) (here + (length name + 1)) names)
+-- the index of the first byte of the k-th name, counted from 0: a slash is before each name
+abbrev pub place_of_name : List Name → ℕ → ℕ
+place_of_name names k = 1 + sum_by (λ name. length name + 1) (take k names)
+
+-- the first name with a fault, counted from 0, or the first name too many
+abbrev pub first_faulty : List Name → ℕ
+first_faulty names = min depth_max (position_or_len (λ name. is_some (name_fault 0 name)) names)
+
+-- the index of the first byte of that name; 0 if there is none
+abbrev pub faulty_name : List Name → ℕ
+faulty_name names = cond (nat_lt (first_faulty names) (length names)) (place_of_name names (first_faulty names)) 0
 
 abbrev pub place_of : List ℕ → PathFault → ℕ
 place_of text OutOfMemory = 0
 place_of text NotRooted = 0
 place_of text TooLong = text_max
 place_of text (BadByte at) = at
-place_of text TooDeep = faulty_name 0 1 (names_in text)
-place_of text EmptyName = faulty_name 0 1 (names_in text)
-place_of text NameTooLong = faulty_name 0 1 (names_in text)
-place_of text DotName = faulty_name 0 1 (names_in text)
-place_of text Reserved = faulty_name 0 1 (names_in text)
+place_of text TooDeep = faulty_name (names_in text)
+place_of text EmptyName = faulty_name (names_in text)
+place_of text NameTooLong = faulty_name (names_in text)
+place_of text DotName = faulty_name (names_in text)
+place_of text Reserved = faulty_name (names_in text)
 
 -- None if the fault is not one of the text
 abbrev pub found : List ℕ → PathFault → Option FaultAt

@@ -33,12 +33,6 @@ fn number_of(fault: PathFault) -> u32
     }
 }
 
-fn next_slash(bytes: &[u8]) -> Option<usize>
-    ensures { result ≡ position is_slash bytes.now }
-{
-    bytes.iter().position(|b| *b == b'/')
-}
-
 // Whether the text of a name has a fault: whether the root has no child of that name.
 fn is_faulty(alloc: Global, name: &[u8]) -> bool
     ensures { result ≡ is_some (name_fault 0 name.now) }
@@ -52,33 +46,23 @@ fn is_faulty(alloc: Global, name: &[u8]) -> bool
     }
 }
 
-// The index of the first name with a fault, or of the first name too many; the first of the names is at index `at`, after
-// `count` others.
-fn faulty_name(alloc: Global, names: &[u8], count: usize, at: usize) -> usize
-    requires room { at + length names.now < 2 ^ 64 }
-    requires count { count ≤ depth_max }
-    ensures { result ≡ faulty_name count at (slice_split is_slash names.now) }
-{
-    if count == DEPTH_MAX {
-        return at;
-    }
-    let Some(end) = next_slash(names) else {
-        return if is_faulty(alloc, names) { at } else { 0 };
-    };
-    if is_faulty(alloc, &names[..end]) {
-        return at;
-    }
-    faulty_name(alloc, &names[end + 1..], count + 1, at + (end + 1))
-}
-
-// The index of that name in a whole text.
-fn faulty_name_of(alloc: Global, text: &[u8]) -> usize
-    ensures { result ≡ faulty_name 0 1 (names_in text.now) }
+// The index of the first name with a fault, or of the first name too many; 0 if there is none.
+fn faulty_name(alloc: Global, text: &[u8]) -> usize
+    ensures { result ≡ faulty_name (names_in text.now) }
 {
     if text.len() < 2 {
         return 0;
     }
-    faulty_name(alloc, &text[1..], 0, 1)
+    let mut at = 1usize;
+    let mut count = 0usize;
+    for name in text[1..].split(|b| *b == b'/') {
+        if count == DEPTH_MAX || is_faulty(alloc, name) {
+            return at;
+        }
+        at += name.len() + 1;
+        count += 1;
+    }
+    0
 }
 
 fn place_of(alloc: Global, text: &[u8], fault: PathFault) -> usize
@@ -92,7 +76,7 @@ fn place_of(alloc: Global, text: &[u8], fault: PathFault) -> usize
         | PathFault::EmptyName
         | PathFault::NameTooLong
         | PathFault::DotName
-        | PathFault::Reserved => faulty_name_of(alloc, text),
+        | PathFault::Reserved => faulty_name(alloc, text),
     }
 }
 
