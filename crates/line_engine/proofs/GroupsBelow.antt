@@ -2,7 +2,7 @@
 use Rattle.std.proofs.Common.{◌≡◌, ◌≢◌, refl, ℕ, zero, suc, ◌+◌, ◌-◌, List, [], ◌∷◌, ◌++◌, length, flat_map, true, sym, ap, ◌∙◌, append_assoc, append-nil, length-append, arith}
 use Rattle.std.proofs.lemmas.Grind.{flat_map-append}
 use Rattle.flat_model.specs.Path.{Name, Path}
-use Rattle.flat_model.specs.PathText.{path_text}
+use Rattle.flat_model.specs.PathText.{depth_max, path_text}
 use Rattle.flat_model.specs.State.{State}
 use Rattle.flat_model.specs.Counts.{is_group}
 use Rattle.line_engine.specs.Listings.{TellsAll, TellsSubtreeAt, names_below, groups_from, paths_bytes, subtree}
@@ -78,12 +78,12 @@ all_count count s n p it some i was =
 -- ---- what a listing of them says
 
 pub told_paths : (s now : State) (p : Path) (old bytes shown out : List ℕ) (count : ℕ) (a : Listing) → now ≡ s → old ≡ []
-    → bytes ≡ old ++ paths_bytes (groups_from now 33 p) → count ≡ length (groups_from now 33 p) → shown ≡ bytes
+    → bytes ≡ old ++ paths_bytes (groups_from now (depth_max + 1) p) → count ≡ length (groups_from now (depth_max + 1) p) → shown ≡ bytes
     → TellsAll shown count out a → TellsAll (paths_bytes (subtree s p)) (length (subtree s p)) out a
 told_paths s now p old bytes shown out count a n o b c e =
     told_all (paths_bytes (subtree s p)) shown out (length (subtree s p)) count a
-    (e ∙ b ∙ ap (λ t. t ++ paths_bytes (groups_from now 33 p)) o ∙ ap (λ u. paths_bytes (groups_from u 33 p)) n)
-    (c ∙ ap (λ u. length (groups_from u 33 p)) n)
+    (e ∙ b ∙ ap (λ t. t ++ paths_bytes (groups_from now (depth_max + 1) p)) o ∙ ap (λ u. paths_bytes (groups_from u (depth_max + 1) p)) n)
+    (c ∙ ap (λ u. length (groups_from u (depth_max + 1) p)) n)
 
 pub told_subtree : (s : State) (p : Path) (out : List ℕ) (a : Listing) → is_group s p ≡ true → TellsAll (paths_bytes (subtree s p)) (length (subtree s p)) out a → TellsSubtreeAt s p out a
 told_subtree s p out (listing.Listed len count) there h = (there, h.0, h.1)

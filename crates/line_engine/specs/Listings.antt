@@ -1,8 +1,8 @@
 -- Listings of groups.
-use Rattle.std.specs.Prelude.{◌≡◌, ℕ, zero, suc, true, false, List, [], ◌∷◌, ◌++◌, map, flat_map, length, drop, Result, Ok, Err}
+use Rattle.std.specs.Prelude.{◌≡◌, ℕ, ◌+◌, zero, suc, true, false, List, [], ◌∷◌, ◌++◌, map, flat_map, length, drop, Result, Ok, Err}
 use Rattle.std.specs.Result.{IsOk, IsErr}
 use Rattle.flat_model.specs.Path.{Name, Path}
-use Rattle.flat_model.specs.PathText.{PathFault, path_text}
+use Rattle.flat_model.specs.PathText.{PathFault, depth_max, path_text}
 use Rattle.flat_model.specs.State.{State}
 use Rattle.flat_model.specs.Counts.{is_group, children}
 use Rattle.flat_model.specs.Command.{Command}
@@ -31,9 +31,9 @@ abbrev pub groups_from : State → ℕ → Path → List Path
 groups_from s zero p = []
 groups_from s (suc n) p = p ∷ flat_map (λ name. groups_from s n (p ++ name ∷ [])) (names_below s p)
 
--- the group p and those below it; a path has at most 32 names
+-- the group p and those below it
 abbrev pub subtree : State → Path → List Path
-subtree s p = groups_from s 33 p
+subtree s p = groups_from s (depth_max + 1) p
 
 -- all groups
 abbrev pub all_groups : State → List Path

@@ -6,12 +6,12 @@ ghost use Rattle.line_engine.specs.Listings.{TellsAll, TellsGroups, TellsSubtree
 
 use crate::engine::LineEngine;
 use crate::listing::{Listing, Unread, put_listing, read};
-use group_path::GroupPath;
+use group_path::{DEPTH_MAX, GroupPath};
 use pids_charge::{Charges, PlainMeter};
 use std::alloc::{AllocError, Global};
 
-/// A path has at most 32 names, so there are 33 levels of groups, including the root's.
-const LEVELS: u8 = 33;
+/// The root's level, and one for each name of a path.
+const LEVELS: u8 = DEPTH_MAX as u8 + 1;
 
 // Appends the path, and those of the groups below it down to `levels` levels, each followed by a zero byte. Returns how many
 // there are. It also returns out of memory for 2^64 paths or more.
