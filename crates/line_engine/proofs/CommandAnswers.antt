@@ -10,10 +10,11 @@ use Rattle.undo_journal.specs.declared.reply.Reply.{Reply}
 use Rattle.undo_journal.specs.CommandMeaning.{reply_of}
 use Rattle.undo_journal.specs.Answer.{Answers, undoes_without_memory}
 use Rattle.undo_journal.specs.Headline.{KeepsHistory}
+use Rattle.undo_journal.specs.Slots.{slots}
 use Rattle.undo_journal.specs.Timeline.{Timeline, becomes}
 use Rattle.line_engine.specs.declared.answer.Answer.{Answer}
 use Rattle.line_engine.specs.declared.answer.Answer.TheVariants as answer
-use Rattle.line_engine.specs.LineAnswers.{slots, is_told, AnswersRun}
+use Rattle.line_engine.specs.LineAnswers.{is_told, AnswersRun}
 use Rattle.line_engine.specs.Ready.{AnswersReply, is_loud, is_counted_reply, ready_reply}
 use Rattle.line_engine.proofs.Quiet.{quiet, loud, counted}
 

@@ -11,7 +11,7 @@ use Rattle.flat_model.specs.Inverse.{inverse_of_refusal}
 use Rattle.flat_model.specs.Step.{refusal, after, after_refusal}
 use Rattle.flat_model.specs.Machine.{Machine, tick, undone, outcome, accepted, recorded}
 use Rattle.undo_journal.specs.Answer.{needs_no_memory, undoes_without_memory, record_by}
-use Rattle.line_engine.specs.LineAnswers.{slots}
+use Rattle.undo_journal.specs.Slots.{slots}
 use Rattle.line_engine.specs.Ready.{is_loud, is_counted_reply, ready_reply}
 
 -- ---- neither loud nor counted

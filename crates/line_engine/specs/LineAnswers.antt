@@ -4,17 +4,13 @@ use Rattle.flat_model.specs.Command.{Command}
 use Rattle.flat_model.specs.Machine.{tick}
 use Rattle.flat_model.specs.Replies.{reply_bytes, fault_bytes}
 use Rattle.flat_model.specs.Trace.{TextFault, Line, Skip, Run, Fault}
-use Rattle.pids_charge.specs.declared.plain.TheConstants.{SLOTS}
 use Rattle.undo_journal.specs.Headline.{KeepsHistory}
+use Rattle.undo_journal.specs.Slots.{slots}
 use Rattle.undo_journal.specs.Timeline.{Timeline, becomes}
 use Rattle.line_engine.specs.Buffer.{Holds, LacksRoom}
 use Rattle.line_engine.specs.FaultCodes.{reply_code, fault_code}
 use Rattle.line_engine.specs.declared.answer.Answer.{Answer}
 use Rattle.line_engine.specs.declared.answer.Answer.TheVariants.{Skipped, Answered, TooSmall, OutOfMemory}
-
--- the number of groups besides the root: as many as a plain meter has slots
-abbrev pub slots : ℕ
-slots = SLOTS
 
 abbrev pub is_told : Answer → Bool
 is_told Skipped = false

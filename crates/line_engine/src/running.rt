@@ -6,8 +6,9 @@ ghost use Rattle.flat_model.specs.Machine.{tick};
 ghost use Rattle.flat_model.specs.Replies.{reply_bytes};
 ghost use Rattle.undo_journal.specs.Answer.{undoes_without_memory};
 ghost use Rattle.undo_journal.specs.CommandMeaning.{command_of, reply_of};
+ghost use Rattle.undo_journal.specs.Slots.{slots};
 ghost use Rattle.undo_journal.specs.Timeline.{becomes};
-ghost use Rattle.line_engine.specs.LineAnswers.{slots, AnswersRun, is_told};
+ghost use Rattle.line_engine.specs.LineAnswers.{AnswersRun, is_told};
 ghost use Rattle.line_engine.specs.Ready.{AnswersReply, ready_reply, is_loud, is_counted_reply};
 
 use crate::answer::{Answer, code_of_reply};

@@ -13,9 +13,10 @@ use Rattle.flat_model.specs.Machine.{tick}
 use Rattle.flat_model.specs.Replies.{fault_bytes, reply_bytes}
 use Rattle.flat_model.specs.Trace.{Fault, Line, Run, Skip}
 use Rattle.flat_model.proofs.GroupCounts.{populated_is}
+use Rattle.undo_journal.specs.Slots.{slots}
 use Rattle.undo_journal.specs.Timeline.{Timeline}
 use Rattle.line_engine.specs.Buffer.{Holds, LacksRoom}
-use Rattle.line_engine.specs.LineAnswers.{AnswersLine, slots}
+use Rattle.line_engine.specs.LineAnswers.{AnswersLine}
 use Rattle.group_tree.specs.ChildNames.{last_name}
 use Rattle.line_engine.specs.Listings.{TellsChildren, TellsGroup, TellsGroups, TellsSubtree, all_groups, names_bytes, names_below, paths_bytes, subtree}
 use Rattle.line_engine.specs.Numbers.{TellsNumber, limit_number, pids_limit, populated_number}

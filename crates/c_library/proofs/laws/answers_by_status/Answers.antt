@@ -5,8 +5,8 @@ use Rattle.flat_model.specs.Command.{NothingToUndo, Undo}
 use Rattle.flat_model.specs.Machine.{tick}
 use Rattle.flat_model.specs.PathText.{name_fault, path_fault}
 use Rattle.flat_model.specs.Trace.{BadDirection, command_of_words}
+use Rattle.undo_journal.specs.Slots.{slots}
 use Rattle.undo_journal.specs.Timeline.{Timeline}
-use Rattle.line_engine.specs.LineAnswers.{slots}
 use Rattle.c_library.specs.Status.{status_of}
 use Rattle.c_library.proofs.StatusLaws.{held_is, in_handle, fault_by_two, fault_by_three, run_by_one}
 use Rattle.c_library.proofs.laws.answers_by_status.Goals as goal
