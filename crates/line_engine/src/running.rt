@@ -37,26 +37,6 @@ fn is_answered(reply: &Reply<Global>) -> bool
     }
 }
 
-/// Whether the reply is that of an accepted change.
-fn is_loud_reply(reply: &Reply<Global>) -> bool
-    ensures { IfSome (reply_of reply.now) (λ r. result ≡ is_loud r) }
-{
-    matches!(reply, Reply::Done | Reply::Undone(_))
-}
-
-/// Whether the reply is a refusal that was counted.
-fn is_counted(reply: &Reply<Global>) -> bool
-    ensures { IfSome (reply_of reply.now) (λ r. result ≡ is_counted_reply r) }
-{
-    matches!(reply, Reply::Refused(Refusal::PidsMax(_)))
-}
-
-fn is_told(answer: Answer) -> bool
-    ensures { result ≡ is_told answer }
-{
-    matches!(answer, Answer::Answered { len: _, code: _ })
-}
-
 /// The result for a command with this reply. `ready` has the reply's bytes if it is that of an accepted change.
 fn answer_reply(
     alloc: Global,
@@ -68,7 +48,7 @@ fn answer_reply(
     requires { IfSome (reply_of reply.now) (λ r. is_loud r ≡ true → length ready.now ≤ length out.old) }
     ensures { IfSome (reply_of reply.now) (λ r. (is_loud r ≡ true → ready.now ≡ reply_bytes number r) → AnswersReply number r out.new result) }
 {
-    if is_loud_reply(reply) {
+    if matches!(reply, Reply::Done | Reply::Undone(_)) {
         return match put_out(out, ready) {
             Some(len) => Answer::Answered {
                 len,
@@ -156,13 +136,13 @@ impl LineEngine {
         requires { IfSome (reply_of reply.now) (λ r. is_counted_reply r ≡ true → undoes_without_memory slots self.old.engine.machine.past ≡ true) }
         ensures { IfSome (reply_of reply.now) (λ r. self.new.engine ≡ cond (is_counted_reply r && not (is_told answer)) (becomes self.old.engine (tick slots self.old.engine.machine model.Undo).0) self.old.engine) }
     {
-        if !is_counted(reply) {
-            return;
+        match (reply, answer) {
+            (_, Answer::Answered { len: _, code: _ }) => {}
+            (Reply::Refused(Refusal::PidsMax(_)), _) => {
+                let _undone = self.engine.undo_alone(0);
+            }
+            _ => {}
         }
-        if is_told(answer) {
-            return;
-        }
-        let _undone = self.engine.undo_alone(0);
     }
 
     /// Answers one command.
