@@ -8,11 +8,12 @@ use Rattle.flat_model.specs.Machine.{new_machine, tick}
 use Rattle.flat_model.specs.Path.{Path, is_root}
 use Rattle.flat_model.specs.Replies.{fault_bytes, reply_bytes}
 use Rattle.flat_model.specs.State.{State}
-use Rattle.flat_model.specs.Trace.{Line, TextFault}
+use Rattle.flat_model.specs.Trace.{Line, TextFault, BadSyntax}
+use Rattle.undo_journal.specs.Slots.{slots}
 use Rattle.undo_journal.specs.Timeline.{Timeline, from_start}
 use Rattle.line_engine.specs.Buffer.{Holds}
 use Rattle.line_engine.specs.FaultCodes.{fault_code, reply_code}
-use Rattle.line_engine.specs.LineAnswers.{AnswersFault, AnswersRun, slots}
+use Rattle.line_engine.specs.LineAnswers.{AnswersFault, AnswersRun}
 use Rattle.line_engine.specs.Listings.{TellsAll, TellsChildrenAt, TellsGroupAt, TellsSubtreeAt}
 use Rattle.line_engine.specs.Numbers.{TellsNumberAt}
 use Rattle.line_engine.specs.declared.answer.Answer.{Answer}
@@ -41,7 +42,7 @@ below_three false false = omega arith
 
 not_six : (a : Answer) → status_of a ≡ 6 → ⊥
 not_six Skipped e = omega (arith, e)
-not_six (Answered len code) e = omega (arith, e, below_three (nat_eq code 0) (nat_lt code 32))
+not_six (Answered len code) e = omega (arith, e, below_three (nat_eq code 0) (nat_lt code (fault_code BadSyntax)))
 not_six (TooSmall needed) e = omega (arith, e)
 not_six OutOfMemory e = omega (arith, e)
 
@@ -65,7 +66,7 @@ fault_by_two n f out is OutOfMemory info e h s i = absurd (omega (arith, s))
 pub fault_by_three : (n : ℕ) (f : TextFault) (out is : List ℕ) (a : Answer) (info : Info) → fault_bytes n f ≡ is → AnswersFault n f out a → 3 ≡ status_of a → info ≡ info_of a
     → (info ≡ too_small (length is)) × (length out < length is)
 fault_by_three n f out is Skipped info e h s i = absurd h
-fault_by_three n f out is (Answered len code) info e h s i = absurd (omega (arith, s, below_three (nat_eq code 0) (nat_lt code 32)))
+fault_by_three n f out is (Answered len code) info e h s i = absurd (omega (arith, s, below_three (nat_eq code 0) (nat_lt code (fault_code BadSyntax))))
 fault_by_three n f out is (TooSmall needed) info e h s i =
     let l : needed ≡ length is = h.0 ∙ ap length e in (i ∙ ap too_small l, omega (arith, h.1, l))
 fault_by_three n f out is OutOfMemory info e h s i = absurd (omega (arith, s))

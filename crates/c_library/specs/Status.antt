@@ -1,10 +1,11 @@
 -- What the calls from C return and leave. A handle has an engine, or none.
-use Rattle.std.specs.Prelude.{◌≡◌, ℕ, cond, nat_eq, nat_lt, List, Option, None, Some, length, Result}
+use Rattle.std.specs.Prelude.{◌≡◌, ℕ, cond, nat_eq, nat_lt, List, [], Option, None, Some, length, Result}
+use Rattle.flat_model.specs.Command.{NoGroup, NoFile}
 use Rattle.flat_model.specs.Machine.{Machine, new_machine}
 use Rattle.flat_model.specs.Path.{Path}
 use Rattle.flat_model.specs.PathText.{PathFault}
 use Rattle.flat_model.specs.State.{State}
-use Rattle.flat_model.specs.Trace.{Line}
+use Rattle.flat_model.specs.Trace.{Line, BadSyntax, BadPath}
 use Rattle.undo_journal.specs.Beginning.{forgets}
 use Rattle.undo_journal.specs.Timeline.{from_start}
 use Rattle.line_engine.specs.declared.answer.Answer.{Answer}
@@ -14,6 +15,7 @@ use Rattle.line_engine.specs.declared.listing.Listing.TheVariants as listing
 use Rattle.line_engine.specs.declared.listing.Found.{Found}
 use Rattle.line_engine.specs.declared.listing.Found.TheVariants as found
 use Rattle.line_engine.specs.declared.engine.LineEngine.{LineEngine}
+use Rattle.line_engine.specs.FaultCodes.{refusal_code, fault_code}
 use Rattle.line_engine.specs.LineAnswers.{AnswersLine}
 use Rattle.line_engine.specs.Listings.{TellsChildren, TellsGroups, TellsSubtree, TellsHistory, TellsGroup}
 use Rattle.line_engine.specs.Numbers.{TellsNumber}
@@ -30,9 +32,9 @@ told len count code = record { len = len; count = count; needed = 0; code = code
 abbrev pub too_small : ℕ → Info
 too_small needed = record { len = 0; count = 0; needed = needed; code = 0 }
 
--- 0 for done, 1 for refused, 2 for a line that is no command
+-- 0 for done, 1 for refused, 2 for a line that is no command: the codes of faults begin with that of BadSyntax
 abbrev pub status_of_code : ℕ → ℕ
-status_of_code code = cond (nat_eq code 0) 0 (cond (nat_lt code 32) 1 2)
+status_of_code code = cond (nat_eq code 0) 0 (cond (nat_lt code (fault_code BadSyntax)) 1 2)
 
 -- ---- a line
 
@@ -101,8 +103,8 @@ listing_status listing.OutOfMemory = 4
 
 abbrev pub listing_info : Listing → Info
 listing_info (listing.Listed len count) = told len count 0
-listing_info listing.NoGroup = told 0 0 2
-listing_info listing.BadPath = told 0 0 33
+listing_info listing.NoGroup = told 0 0 (refusal_code (NoGroup []))
+listing_info listing.BadPath = told 0 0 (fault_code BadPath)
 listing_info (listing.TooSmall needed) = too_small needed
 listing_info listing.OutOfMemory = told 0 0 0
 
@@ -139,8 +141,8 @@ found_status found.OutOfMemory = 4
 
 abbrev pub found_info : Found → Info
 found_info found.There = told 0 0 0
-found_info found.NoGroup = told 0 0 2
-found_info found.BadPath = told 0 0 33
+found_info found.NoGroup = told 0 0 (refusal_code (NoGroup []))
+found_info found.BadPath = told 0 0 (fault_code BadPath)
 found_info found.OutOfMemory = told 0 0 0
 
 pub record FoundAt (e : LineEngine) (path : Result Path PathFault) (status : ℕ) (info : Info) (new : Option LineEngine) : Type 0 where
@@ -165,9 +167,9 @@ number_status number.OutOfMemory = 4
 
 abbrev pub number_info : Number → Info
 number_info (number.Told n) = told 0 0 0
-number_info number.NoGroup = told 0 0 2
-number_info number.NoFile = told 0 0 12
-number_info number.BadPath = told 0 0 33
+number_info number.NoGroup = told 0 0 (refusal_code (NoGroup []))
+number_info number.NoFile = told 0 0 (refusal_code NoFile)
+number_info number.BadPath = told 0 0 (fault_code BadPath)
 number_info number.OutOfMemory = told 0 0 0
 
 abbrev pub number_value : Number → ℕ
