@@ -26,7 +26,7 @@ use Rattle.line_engine.specs.declared.listing.Listing.TheVariants as listing
 use Rattle.line_engine.specs.declared.numbers.Number.{Number}
 use Rattle.line_engine.specs.declared.numbers.Number.TheVariants as number
 use Rattle.c_library.specs.Status.{AnswersAt, ClosesHandle, CopiesAt, DepthAt, ForgetsAt, IsOpened}
-use Rattle.c_library.specs.Status.{found_info, found_status, info_of, listing_info, listing_status, number_info, number_status, number_value, status_of, told, too_small}
+use Rattle.c_library.specs.Status.{found_status, info_of, listing_info, listing_status, number_info, number_status, number_value, status_of, told, too_small}
 use Rattle.c_library.specs.declared.info.Info.{Info}
 
 -- ---- lines
