@@ -97,7 +97,7 @@ impl Meters {
 
     /// Replaces the charges of both meters, with these test hooks. Returns whether the meters are alike; None if there are no
     /// such charges.
-    fn replace<R: Threads>(
+    fn replace<R: Threads + Wait>(
         &mut self,
         rt: &R,
         open: &(dyn Gate + Sync),
@@ -127,7 +127,7 @@ impl Meters {
     }
 
     /// Replaces the charges, and says the counts.
-    fn put_replaced<R: Threads>(
+    fn put_replaced<R: Threads + Wait>(
         &mut self,
         rt: &R,
         open: &(dyn Gate + Sync),
@@ -147,7 +147,7 @@ impl Meters {
     }
 
     /// After how many of these rounds the meters differ.
-    fn draw<R: Threads>(&mut self, rt: &R, alloc: Global, rounds: u64) -> Result<u64, AllocError> {
+    fn draw<R: Threads + Wait>(&mut self, rt: &R, alloc: Global, rounds: u64) -> Result<u64, AllocError> {
         let mut number = 1;
         for round in 0..rounds {
             number = next(number);

@@ -4,6 +4,7 @@ ghost use Rattle.snzi_tokens.specs.Listed.{IsWithin, listed_at};
 ghost use Rattle.board_tests.specs.Tokens.{HoldsTokens};
 
 use pids_charge::{Gate, HELD_MAX, LEAVES, Meter, SLOTS, Token};
+use std::sync::Wait;
 use std::thread::Threads;
 
 /// The last slot of both meters.
@@ -60,7 +61,7 @@ pub(crate) struct Exchange<'a> {
 }
 
 /// Removes the leaving charges, which are all that there are, and adds the arriving ones.
-pub(crate) fn swap<R: Threads, M: Meter>(
+pub(crate) fn swap<R: Threads + Wait, M: Meter>(
     rt: &R,
     meter: &mut M,
     gate: &(dyn Gate + Sync),
