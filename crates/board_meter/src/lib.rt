@@ -13,9 +13,10 @@
 //!   as many runs. Their lengths differ by at most one, the longer runs first. Part 1 does the first runs with main on the
 //!   calling thread. Each other part runs on a thread of its own, with a hand that is split off main with the part's leaving
 //!   tokens and joined before `settle` returns. All hands are split off, and all threads started, before the first is
-//!   joined. Within a part the leaving charges are removed before the arriving ones are added. Each part first calls the
-//!   test hook, even if its runs are empty. If a thread cannot be started, the thread that would have started it does the
-//!   part. The final content is the same for any number of parts and threads.
+//!   joined. No thread outlives the call. A thread's stack has 256 KiB. Within a part the leaving charges are removed before
+//!   the arriving ones are added. Each part first calls the test hook, even if its runs are empty. If a thread cannot be
+//!   started, the thread that would have started it does the part. The final content is the same for any number of parts and
+//!   threads. `settle` may wait for its threads, and for nothing else.
 //!
 //! Not promised: that a thread was started, and in which stripe an amount is stored.
 //!

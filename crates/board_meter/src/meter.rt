@@ -12,6 +12,7 @@ use pids_charge::{Gate, Meter, Token, part_count};
 use snzi_tree::{Board, Hand};
 use std::alloc::{AllocError, Global};
 use std::marker::Model;
+use std::sync::Wait;
 use std::thread::Threads;
 
 /// A meter of atomic words: a board and its main hand. Contracts see it as what that hand holds.
@@ -80,7 +81,7 @@ impl Meter for BoardMeter {
         self.board.query(&mut self.main, slot)
     }
 
-    fn settle<R: Threads>(
+    fn settle<R: Threads + Wait>(
         &mut self,
         rt: &R,
         gate: &(dyn Gate + Sync),

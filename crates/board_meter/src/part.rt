@@ -75,3 +75,21 @@ pub(crate) fn do_part<const G: usize, const W: usize, const L: usize, A: Gate>(
     uncharge_all(board, hand, exchange.stripe, exchange.leaving);
     charge_all(board, hand, exchange.arriving);
 }
+
+/// As `do_part`, with a hand that is taken and handed back.
+pub(crate) fn do_part_by_value<const G: usize, const W: usize, const L: usize, A: Gate>(
+    board: &Board<G, W, L>,
+    mut hand: Hand,
+    gate: &A,
+    part: u8,
+    exchange: &Exchange,
+) -> Hand
+    requires here { IsHandOf board.now hand }
+    requires part { (1 ≤ part) × (part ≤ 24) }
+    requires can { CanSettle G W L exchange.now.stripe exchange.now.leaving.now exchange.now.arriving.now (holds hand) }
+    ensures hand { SameHand hand result }
+    ensures settled { Settled W L exchange.now.leaving.now exchange.now.arriving.now (holds hand) (holds result) }
+{
+    do_part(board, &mut hand, gate, part, exchange);
+    hand
+}
