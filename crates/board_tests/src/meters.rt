@@ -147,7 +147,12 @@ impl Meters {
     }
 
     /// After how many of these rounds the meters differ.
-    fn draw<R: Threads + Wait>(&mut self, rt: &R, alloc: Global, rounds: u64) -> Result<u64, AllocError> {
+    fn draw<R: Threads + Wait>(
+        &mut self,
+        rt: &R,
+        alloc: Global,
+        rounds: u64,
+    ) -> Result<u64, AllocError> {
         let mut number = 1;
         for round in 0..rounds {
             number = next(number);
