@@ -1,4 +1,6 @@
 """What newcomers look for, and what it is called here: words with the names by which ./where finds it."""
+import errno
+import os
 
 WORDS = (
     (("user notification", "seccomp notify", "notif"), ("SECCOMP_RET_USER_NOTIF", "seccomp_notif")),
@@ -65,9 +67,10 @@ WORDS = (
 
 
 def called_here(name):
-    """The names here of what the words mean; none if they aren't in the table."""
+    """The names here of what the words mean, and the errno whose message they are; none if they aren't known."""
     asked = name.lower()
-    return [target for words, targets in WORDS if asked in map(str.lower, words) for target in targets]
+    errnos = [it for number, it in sorted(errno.errorcode.items()) if os.strerror(number).lower() == asked]
+    return errnos + [target for words, targets in WORDS if asked in map(str.lower, words) for target in targets]
 
 
 def faults_of_words(is_there):

@@ -228,6 +228,8 @@ class OfThisRepository(unittest.TestCase):
         for name in ("deb", "rpm", "install", "FEDORA"):
             self.assertTrue(words.called_here(name), name)
         self.assertEqual(words.called_here("fedoras"), [])
+        self.assertEqual(words.called_here("Transport endpoint is not connected"), ["ENOTCONN"])
+        self.assertEqual(words.called_here("no such process"), ["ESRCH"])
 
     def test_a_message_of_a_check_that_fails_leads_to_what_to_do(self):
         for message in (
@@ -305,7 +307,7 @@ class OfAMadeUpRepository(unittest.TestCase):
         "mount/mutants/run/births.c.mutants": "file: mount/src/run/births.c\n\n== a_birth_is_late\nwhy: the child waits\n"
         "old: now();\nnew: later();\ntest: births\n\n== a_birth_is_late_again\nold: again();\nnew: later();\ntest: births\n",
         "evidence/linux-6.1/rows.recorded": "births\n" * 5000,
-        "man/tool.1": where.plain_manual(".B \\-\\-keep\\fR\n"),
+        "man/tool.1": where.plain("man/tool.1", ".B \\-\\-keep\\fR\n"),
     }
 
     def screen(self, name):
@@ -419,6 +421,20 @@ class OfAMadeUpRepository(unittest.TestCase):
             self.assertEqual(where.main(["--all"]), 1)
         first = ["is a number", "documents   README.md:1", "--all: no file of the repository has it"]
         self.assertEqual([line for line in said.getvalue().split("\n") if line in first], first)
+
+    def test_words_that_are_in_one_line_but_not_one_after_the_other(self):
+        apart = "  no line has these words one after the other; these lines have each of them"
+        self.assertEqual(where.Search("number is", self.TEXTS).screen(), ["number is", apart, "documents   README.md:1"])
+        self.assertEqual(where.Search("Numb IS", self.TEXTS).screen()[1:], [apart, "documents   README.md:1"])
+        self.assertEqual(where.Search("umber is", self.TEXTS).screen(), [])
+        self.assertEqual(where.Search("number absent", self.TEXTS).screen(), [])
+        self.assertNotIn(apart, where.Search("is a number", self.TEXTS).screen())
+        self.assertEqual(where.Search("NUMBER", self.TEXTS).screen(), [])
+
+    def test_words_of_a_document_are_found_across_the_marks_of_code_type(self):
+        text = "a `0` in `cgroup.procs` is its writer\n"
+        texts = {path: where.plain(path, text) for path in ("docs/a.md", "b.py")}
+        self.assertEqual(where.Search("0 in cgroup.procs", texts).screen()[1:], ["documents   docs/a.md:1"])
 
     def test_a_name_that_is_nowhere(self):
         said = io.StringIO()
