@@ -11,7 +11,7 @@ from unittest import TestCase, main, mock
 from scripts import TOP
 
 SCRIPT = "evidence/check-kernel"
-# What a program of the machine is here: each notes its words. cpio keeps the files that it is given.
+# What a program of the machine is here: each logs its words. cpio keeps the files that it is given.
 PROGRAMS = {
     "busybox": "#!/bin/sh\n",
     "cpio": '#!/bin/sh\ntar -cf - --no-recursion -T - | tar -C "$PLACE/initramfs" -xf -\necho an initramfs\n',

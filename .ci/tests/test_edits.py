@@ -62,7 +62,7 @@ class Edits(MadeUp):
         return [line for line in self.run_with(*words) if line]
 
     def land(self, status=0, meanwhile=lambda: None):
-        """What .ci/run does: lays what is due, lets `rt ci` try it, and notes."""
+        """What .ci/run does: lays what is due, lets `rt ci` try it, and stores what passed."""
         self.run_with("--lay")
         self.write("log", self.rt(["rt", "ci"]).stdout)
         meanwhile()

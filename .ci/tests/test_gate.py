@@ -1,4 +1,4 @@
-"""Tests of .ci/run, .ci/quick and .ci/all-unproved in a made-up repository, whose parts are scripts that note their calls and pass or fail as told."""
+"""Tests of .ci/run, .ci/quick and .ci/all-unproved in a made-up repository, whose parts are scripts that log their calls and pass or fail as told."""
 import os
 import re
 import shutil
@@ -211,7 +211,7 @@ class Run(Gates):
             ("tools/rt", 1, ENDS[2]),
         ):
             self.assertEqual(self.stopped(".ci/run", name, number), status)
-            # once at the end, and once after proofs that ended; a part that was just starting may do so too, or note its call
+            # once at the end, and once after proofs that ended; a part that was just starting may do so too, or log its call
             self.assertGreaterEqual(self.calls().count(".ci/edits --take-back"), times)
 
     def test_parts_that_may_hang_have_an_end(self):

@@ -8,7 +8,7 @@ from scripts import TOP, MadeUp, load
 
 slowest = load(".ci/slowest")
 assumed = load(".ci/assumed")
-# It notes its words, and proves three functions: one at once, one that takes processor time, one at once.
+# It logs its words, and proves three functions: one at once, one that takes processor time, one at once.
 RATTLE = """#!/bin/bash
 printf '%%s\\n' "$PWD" "$@" >%s/calls
 [ ! -e %s/fails ] || { echo "not proved: a hole"; exit 1; }

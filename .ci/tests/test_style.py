@@ -6,7 +6,7 @@ import tempfile
 import unittest
 
 TOP = os.path.dirname(os.path.dirname(os.path.dirname(os.path.realpath(__file__))))
-# It notes its name and words. A file of its name in `says` has what it says, and one in `status` its status.
+# It logs its name and words. A file of its name in `says` has what it says, and one in `status` its status.
 TOOL = """#!/bin/sh
 name=$(basename "$0")
 echo "$name $*" >>{top}/calls

@@ -6,7 +6,7 @@ from unittest import main, mock
 from scripts import MadeUp, load
 
 unproved = load(".ci/unproved")
-# It notes its crate and its words. In a crate, `fails` makes a test fail, `says` is the output of the program.
+# It logs its crate and its words. In a crate, `fails` makes a test fail, `says` is the output of the program.
 RT = """#!/bin/sh
 echo "$(basename "$PWD") $*" >>%s/calls
 cat >given

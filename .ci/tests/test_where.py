@@ -424,7 +424,9 @@ class OfAMadeUpRepository(unittest.TestCase):
 
     def test_words_that_are_in_one_line_but_not_one_after_the_other(self):
         apart = "  no line has these words one after the other; these lines have each of them"
-        self.assertEqual(where.Search("number is", self.TEXTS).screen(), ["number is", apart, "documents   README.md:1"])
+        self.assertEqual(
+            where.Search("number is", self.TEXTS).screen(), ["number is", apart, "documents   README.md:1"]
+        )
         self.assertEqual(where.Search("Numb IS", self.TEXTS).screen()[1:], [apart, "documents   README.md:1"])
         self.assertEqual(where.Search("umber is", self.TEXTS).screen(), [])
         self.assertEqual(where.Search("number absent", self.TEXTS).screen(), [])

@@ -9,7 +9,7 @@ import (
 	"makhloeum/makhloeumtest"
 )
 
-// ending is a test that notes why it ends.
+// ending is a test that keeps why it ends.
 type ending struct {
 	testing.TB
 	said string

@@ -1,4 +1,4 @@
-"""The parts of `makhloeum check` that clean up, talk to the worker, compare and write scripts. test_check.py has others,
+"""The parts of `makhloeum check` that clean up, call the worker, compare and write scripts. test_check.py has others,
 and look/test-check has the whole."""
 
 import errno
@@ -335,7 +335,7 @@ def test_the_names_of_groups_are_quoted_in_a_script(tmp_path, way):
 
 
 def test_a_script_keeps_what_it_needs_in_any_folder(tmp_path):
-    """It talks to its processes by fifos, below TMPDIR."""
+    """It reaches its processes by fifos, below TMPDIR."""
     place, folder = tmp_path / "it's $(id>hit) here", tmp_path / "folder"
     place.mkdir()
     folder.mkdir()

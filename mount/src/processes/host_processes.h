@@ -30,7 +30,7 @@ int host_processes_adopt(pid_t pid, bool *is_new);
 /* The move of a new one failed. */
 void host_processes_disown(pid_t pid);
 
-/* Before a kill, notes the real processes at and below a group: 0 or -errno. After it, kills them. */
+/* Before a kill, lists the real processes at and below a group: 0 or -errno. After it, kills them. */
 int host_processes_note(const char *group);
 void host_processes_kill_noted(void);
 

@@ -37,7 +37,7 @@ int cgroup_namespaces_prepare(unsigned call, pid_t process, const char *into)
 {
 	char group[PATH_MAX_SAID] = "/";
 	WANTS_LOCK();
-	/* The group is noted now: the process may be moved while the call is made. */
+	/* The group is stored now: the process may be moved while the call is made. */
 	if (!into && engine_where(process, group, sizeof group) == -ENOMEM)
 		return -ENOMEM;
 	const char *root = into ? into : group;

@@ -196,7 +196,7 @@ static int move(const struct open_file *o, char said[SAID_MAX])
 	return fault;
 }
 
-/* From the first look to the last signal no number becomes another process's. Who is meant is noted before the line, after which nobody is
+/* From the first look to the last signal no number becomes another process's. Who is meant is stored before the line, after which nobody is
    in the group; signals are sent once the line is kept. */
 static int kill_group(const struct open_file *o, const char *said)
 {

@@ -174,7 +174,7 @@ static int note(pid_t pid, const char *group)
 }
 
 /* Orders all processes at and below a group, or none: 0 or -errno. First all that are meant are
-   noted, which may find no memory, and then they are ordered, which cannot fail. */
+   listed, which may find no memory, and then they are ordered, which cannot fail. */
 static int order_all(const char *top)
 {
 	/* If no group freezes and no process was to stop, nothing can change. */

@@ -38,7 +38,7 @@ bool open_files_goes_on(const struct open_file *o, off_t at);
 /* How many of `size` bytes the kept text has at a place; and a read of that many. */
 size_t open_files_has(const struct open_file *o, size_t size, off_t at);
 void open_files_read(struct open_file *o, char *out, size_t size, off_t at);
-/* A poll: returns what it reports, and notes whom to wake at the next change. */
+/* A poll: returns what it reports, and stores whom to wake at the next change. */
 unsigned open_files_poll(struct open_file *o, struct fuse_pollhandle *waiter);
 bool open_files_is_gone(const struct open_file *o);
 /* The text of a file has changed; or of one of the control directory. */

@@ -29,9 +29,9 @@ static void refuse(struct thread *t, int error)
 		tracee_return(t->id, &before, -error);
 }
 
-/* The server notes the namespace's root before the call, which begins at the process's group as it
+/* The server stores the namespace's root before the call, which begins at the process's group as it
    is now. It hears of the number of the namespace after the call. A new mount namespace changes
-   which root a path of the process means, so it is noted before the call is made. */
+   which root a path of the process means, so it is stored before the call is made. */
 static void on_unshare(struct thread *t, unsigned long flags)
 {
 	if (flags & CLONE_NEWNS)
@@ -169,7 +169,7 @@ void calls_after(struct thread *t)
 	tracee_run(t->id, 0);
 }
 
-/* The server keeps the root that was noted until it hears of a namespace, or of none. */
+/* The server keeps the root that was stored until it hears of a namespace, or of none. */
 void calls_abandon(struct thread *t)
 {
 	if (t->unshares)

@@ -184,7 +184,7 @@ int link_prepare(unsigned call, pid_t process, const char *group)
 	return ask(&(struct question){ .what = PREPARE, .prepare = { call, process } }, group).fault;
 }
 
-/* It takes what link_prepare has noted, or drops it. */
+/* It takes what link_prepare has stored, or drops it. */
 void link_namespace(unsigned number, unsigned call)
 {
 	(void)ask(&(struct question){ .what = NAMESPACE, .made = { call, number } }, NULL);
