@@ -433,6 +433,21 @@ class OfAMadeUpRepository(unittest.TestCase):
         self.assertNotIn(apart, where.Search("is a number", self.TEXTS).screen())
         self.assertEqual(where.Search("NUMBER", self.TEXTS).screen(), [])
 
+    def test_a_file_of_python_or_c_has_what_imports_it(self):
+        texts = {
+            **{"a/trees.py": "", "b.py": "from a.trees import x\n", "c.py": "import os\nfrom a import oaks, trees\n"},
+            **{"program": "    import trees\n", "other.py": "import trees_of\ntrees = 1\n", "e.md": "import trees\n"},
+            **{
+                "m/paths.c": "",
+                "m/x.c": '#include "m/paths.h"\n#include "paths.h"\n',
+                "m/y.h": '#include "m/longpaths.h"\n',
+            },
+        }
+        self.assertEqual(where.Search("trees.py", texts).hits["code"], {"b.py": {1}, "c.py": {2}, "program": {1}})
+        self.assertEqual(where.Search("paths.c", texts).hits["code"], {"m/x.c": {1, 2}})
+        self.assertEqual(where.Search("oaks.py", texts).hits["code"], {})
+        self.assertEqual(where.Search("e.md", texts).hits["code"], {})
+
     def test_words_of_a_document_are_found_across_the_marks_of_code_type(self):
         text = "a `0` in `cgroup.procs` is its writer\n"
         texts = {path: where.plain(path, text) for path in ("docs/a.md", "b.py")}
