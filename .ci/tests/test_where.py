@@ -433,6 +433,14 @@ class OfAMadeUpRepository(unittest.TestCase):
         self.assertNotIn(apart, where.Search("is a number", self.TEXTS).screen())
         self.assertEqual(where.Search("NUMBER", self.TEXTS).screen(), [])
 
+    def test_a_name_that_is_only_in_longer_words(self):
+        within = "  no line has this as a word; these lines have it within longer words"
+        texts = {"a.py": "unpacked(one.tar.gz)\n*.tar.gz\nhalf\n", "b.md": "10244\n"}
+        self.assertEqual(where.Search("tar.gz", texts).screen()[:3], ["tar.gz", within, "code        a.py:1,2"])
+        self.assertEqual(where.Search("alf", texts).hits["code"], {"a.py": {3}})
+        self.assertEqual(where.Search("1024", texts).screen(), [])
+        self.assertNotIn(within, where.Search("half", texts).said)
+
     def test_a_file_of_python_or_c_has_what_imports_it(self):
         texts = {
             **{"a/trees.py": "", "b.py": "from a.trees import x\n", "c.py": "import os\nfrom a import oaks, trees\n"},
