@@ -433,6 +433,13 @@ class OfAMadeUpRepository(unittest.TestCase):
         self.assertNotIn(apart, where.Search("is a number", self.TEXTS).screen())
         self.assertEqual(where.Search("NUMBER", self.TEXTS).screen(), [])
 
+    def test_names_without_a_letter(self):
+        said = io.StringIO()
+        with mock.patch.object(where, "repository", lambda: self.TEXTS), contextlib.redirect_stderr(said):
+            self.assertEqual([where.main([name]) for name in ("", " ")], [2, 2])
+        self.assertTrue(said.getvalue().startswith("Where something is: "))
+        self.assertEqual(where.Search("Absent::", self.TEXTS).screen(), [])
+
     def test_a_name_that_is_only_in_longer_words(self):
         within = "  no line has this as a word; these lines have it within longer words"
         texts = {"a.py": "unpacked(one.tar.gz)\n*.tar.gz\nhalf\n", "b.md": "10244\n"}
