@@ -176,6 +176,8 @@ class OfThisRepository(unittest.TestCase):
         for part in set(where.PARTS) - {"mutants"}:
             for path, numbers in search.hits[part].items():
                 place = screen.short(path) + ":" + ",".join(map(str, sorted(numbers)))
+                if part == "recordings" and len(numbers) >= screen.FEW:
+                    place = f"{screen.short(path)}({len(numbers)})"
                 self.assertTrue(any(line.endswith(place) for line in lines), place)
         for path, numbers in search.hits["mutants"].items():
             places = re.findall(rf"\({re.escape(path.partition('/mutants/')[2])}:([\d,]+)\)$", "\n".join(lines), re.M)
@@ -413,6 +415,11 @@ class OfAMadeUpRepository(unittest.TestCase):
 
     def test_recordings_fill_no_screen(self):
         self.assertIn("recordings  evidence/linux-6.1/rows.recorded(5000)", self.screen("births"))
+        whole = where.Search("births", self.TEXTS).screen(is_whole=True)
+        self.assertIn("recordings  evidence/linux-6.1/rows.recorded(5000)", whole)
+        few = {"evidence/linux-6.1/rows.recorded": "births\n" * 39}
+        said = where.Search("births", few).screen(is_whole=True)[1]
+        self.assertTrue(said.endswith("rows.recorded:" + ",".join(map(str, range(1, 40)))))
 
     def test_several_words_are_one_name(self):
         said = io.StringIO()
