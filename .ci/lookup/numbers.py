@@ -9,7 +9,7 @@ from .definitions import ending
 CONSTANT = {
     ".rt": r"\b(?:const|static) (\w+): [^=;]+ = ([^;]+);",
     ".rs": r"\b(?:const|static) (\w+): [^=;]+ = ([^;]+);",
-    ".antt": r"^(?:abbrev |unfoldable |pub )*([A-Z][A-Z0-9_]*) = (.+)$",
+    ".antt": r"^(?:abbrev |unfoldable |pub )*([A-Z][A-Z0-9_]*|[a-z]\w*(?= = \d+$)) = (.+)$",
     ".go": r"^[ \t]*const (\w+)(?: \w+)? = ([^=\n]+?)(?:\s*//.*)?$",
     ".h": r"^[ \t]*#[ \t]*define (\w+) +(.+?)(?:\s*/[*/].*)?$|\b(?:const|constexpr)\b[\w ]* (\w+) = ([^;]+);",
     ".py": r"^[ \t]*([A-Z][A-Z0-9_]*)(?:: [^=\n]+)? = ([^#\n]+)",

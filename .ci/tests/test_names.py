@@ -21,7 +21,7 @@ class Constants(unittest.TestCase):
         "a.sh": "MOST=1024\n",
         "script": "#!/usr/bin/env bash\nROOM=1024\n",
         "other": "#!/usr/bin/env python3\nROOM = 1024\n",
-        "crates/x/specs/A.antt": "SLOTS = 1024\n",
+        "crates/x/specs/A.antt": "SLOTS = 1024\nabbrev pub slots_max : ℕ\nslots_max = 1024\nparts 3 = 1024\nmore = 1024 + n\n",
     }
 
     def test_each_language_names_its_owners(self):
@@ -36,7 +36,7 @@ class Constants(unittest.TestCase):
                 *(("a.py", 3, "ROOM = 4 * 256"), ("a.py", 5, "ROOM_2 = 1024"), ("a.py", 1, "A = 1024")),
                 ("a.mjs", 1, "WIDTH = 1024"),
                 *(("a.sh", 1, "MOST = 1024"), ("script", 2, "ROOM = 1024"), ("other", 2, "ROOM = 1024")),
-                ("crates/x/specs/A.antt", 1, "SLOTS = 1024"),
+                *(("crates/x/specs/A.antt", 1, "SLOTS = 1024"), ("crates/x/specs/A.antt", 3, "slots_max = 1024")),
             ],
         )
 
