@@ -8,6 +8,8 @@ from .screen import short
 TABLE = "crates/word_tables/stdout"
 FILES = "crates/interface_files/src/file.rt"
 MEANINGS = "crates/undo_journal/specs/CommandMeaning.antt"
+# A number of that many digits is looked for with its constant.
+LONG = 4
 # The words of answers that mean nothing else in English.
 OWN_WORDS = (
     "nogroup",
@@ -71,7 +73,11 @@ def of_number(name, row):
     constant, value, meaning = row
     if name.replace(",", "").replace("_", "") not in (constant, value) and name != constant:
         return [], ""
-    return [constant, *with_separators(value)], f"number: {constant} is {int(value):,}: {meaning}"
+    said = f"number: {constant} is {int(value):,}: {meaning}"
+    # A small number means other things too.
+    if name == constant and len(value) < LONG:
+        return [], f"{said}; ./where {value} finds the number itself"
+    return [constant, *with_separators(value)], said
 
 
 def of_command(name, row):
@@ -92,6 +98,8 @@ def same_things(name, texts):
     return sorted(set(others) - {name}), said
 
 
+# A checksum has any number in it.
+SUM = re.compile(r"[0-9a-f]{20,}")
 # What an escape in a string, or a change of the font, ends: a name may begin behind it.
 ESCAPE = r"\\[0abefnrtv]"
 
@@ -124,7 +132,7 @@ def longer_words(names, line):
     """The words of a line that have one of the names in them, and are not one."""
     more = ("." if any("." in name for name in names) else "") + ("-" if any("-" in name for name in names) else "")
     found = re.findall(rf"(?:{ESCAPE})?([\w{more}]+)", line)
-    words = {word.strip(".") for word in found}
+    words = {word.strip(".") for word in found if not SUM.fullmatch(word)}
     return {word for word in words if any(is_in(name, word) for name in names) and not pattern_of(names).search(word)}
 
 

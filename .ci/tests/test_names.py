@@ -87,6 +87,7 @@ class Table(unittest.TestCase):
         ("status", "3", "MK_TOO_SMALL", "ERANGE", "too small", "the buffer is too small"),
         ("status", "0", "MK_DONE", "-", "done", "answered"),
         ("number", "SLOTS", "1024", "groups"),
+        ("number", "LEAVES", "8", "leaves"),
         ("command", "mkdir /a", "PATH", "makes a group"),
     )
     TEXTS = {
@@ -126,6 +127,15 @@ class Table(unittest.TestCase):
             self.assertEqual(said, ["number: SLOTS is 1,024: groups"], name)
             self.assertEqual(sorted({"SLOTS", "1024", "1,024", "1_024"} - {name}), others, name)
         self.assertEqual(names.same_things("rmdir", self.TEXTS), ([], []))
+
+    def test_a_number_in_a_checksum_is_in_no_longer_word(self):
+        self.assertEqual(names.longer_words(["64"], "a64 " + "0f64" * 5), {"a64"})
+        self.assertEqual(names.longer_words(["64"], "0f64" * 4), {"0f64" * 4})
+
+    def test_a_small_number_is_not_looked_for_with_its_constant(self):
+        said = "number: LEAVES is 8: leaves"
+        self.assertEqual(names.same_things("LEAVES", self.TEXTS), ([], [said + "; ./where 8 finds the number itself"]))
+        self.assertEqual(names.same_things("8", self.TEXTS), (["LEAVES"], [said]))
 
     def test_a_variant_is_that_of_the_whole_name(self):
         rows = [("file", name, "no", "yes", "-", "-", "-") for name in ("pids.events", "pids.events.local")]
