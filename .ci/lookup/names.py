@@ -132,7 +132,9 @@ def longer_words(names, line):
     """The words of a line that have one of the names in them, and are not one."""
     more = ("." if any("." in name for name in names) else "") + ("-" if any("-" in name for name in names) else "")
     found = re.findall(rf"(?:{ESCAPE})?([\w{more}]+)", line)
-    words = {word.strip(".") for word in found if not SUM.fullmatch(word)}
+    # A point before a word belongs to it if a name begins with one.
+    before = str.rstrip if any(name[0] == "." for name in names) else str.strip
+    words = {before(word, ".") for word in found if not SUM.fullmatch(word)}
     return {word for word in words if any(is_in(name, word) for name in names) and not pattern_of(names).search(word)}
 
 

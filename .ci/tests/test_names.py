@@ -128,6 +128,10 @@ class Table(unittest.TestCase):
             self.assertEqual(sorted({"SLOTS", "1024", "1,024", "1_024"} - {name}), others, name)
         self.assertEqual(names.same_things("rmdir", self.TEXTS), ([], []))
 
+    def test_a_name_with_a_point_before_it_is_in_longer_ones(self):
+        self.assertEqual(names.longer_words([".tool"], 'see "/.tool.x.1", .tool and a.tool.'), {".tool.x.1", "a.tool"})
+        self.assertEqual(names.longer_words(["tool"], '"/.tools.", ..tool.'), {"tools"})
+
     def test_a_number_in_a_checksum_is_in_no_longer_word(self):
         self.assertEqual(names.longer_words(["64"], "a64 " + "0f64" * 5), {"a64"})
         self.assertEqual(names.longer_words(["64"], "0f64" * 4), {"0f64" * 4})
