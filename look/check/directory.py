@@ -20,7 +20,7 @@ from typing import Callable
 
 from .._table import PID_MAX
 from .engine import FILES, listing
-from .processes import Process, is_alive, wait_for_end
+from .processes import LIMIT, Process, is_alive, wait_for_end
 from .watching import Watch
 
 CGROUP2_MAGIC, FUSE_MAGIC = 0x63677270, 0x65735546
@@ -82,9 +82,12 @@ def _remove_once(path: str) -> list[str]:
 
 
 class Groups:
-    """The groups and processes of one sequence. `patience` is how many seconds a change and a kill may take."""
+    """The groups and processes of one sequence. `patience` is how many seconds a change and a kill may take, `limit` those after
+    which an operation hangs."""
 
-    def __init__(self, own: str, number: int, way: str, patience: float, keep: list[socket.socket]) -> None:
+    def __init__(
+        self, own: str, number: int, way: str, patience: float, keep: list[socket.socket], limit: float = LIMIT
+    ) -> None:
         self._patience = patience
         self.way, self._controlled = way, os.path.exists(os.path.join(own, "cgroup.subtree_control"))
         self.top, self.home = os.path.join(own, f"top{number}"), os.path.join(own, f"home{number}")
@@ -94,7 +97,7 @@ class Groups:
         self.children: dict[str, int] = {}
         os.mkdir(self.top)
         os.mkdir(self.home)
-        self.processes[1] = Process.first(keep)
+        self.processes[1] = Process.first(keep, limit)
         file_write(os.path.join(self.home, "cgroup.procs"), str(self.processes[1].pid))
 
     # ---- paths and numbers

@@ -10,7 +10,7 @@ from typing import Any
 
 from .._table import FILES
 from .directory import CGROUP2_MAGIC, FUSE_MAGIC, file_read, file_write, remove_groups
-from .processes import Process
+from .processes import LIMIT, Process
 
 # What a check needs in a new group. Any other file may be missing there, and is then not compared.
 NEEDED = (
@@ -97,7 +97,7 @@ def _files(own: str) -> list[str]:
     return [name for name in MAY_BE_MISSING if not os.path.exists(_file(own, name))]
 
 
-def _is_free(own: str, keep: list[socket.socket]) -> bool:
+def _is_free(own: str, keep: list[socket.socket], limit: float) -> bool:
     """Whether a group with children may hold processes."""
     groups = [_file(own, "inner"), _file(own, "inner", "leaf")]
     controlled = os.path.exists(_file(own, "cgroup.subtree_control"))
@@ -108,7 +108,7 @@ def _is_free(own: str, keep: list[socket.socket]) -> bool:
                 file_write(_file(at, "cgroup.subtree_control"), "+pids")
             os.mkdir(group)
         for group in groups:
-            processes.append(Process.first(keep))
+            processes.append(Process.first(keep, limit))
             try:
                 file_write(_file(group, "cgroup.procs"), str(processes[-1].pid))
             except OSError as no:
@@ -122,7 +122,7 @@ def _is_free(own: str, keep: list[socket.socket]) -> bool:
         remove_groups(groups[0], 2)
 
 
-def open_directory(directory: str, name: str, keep: list[socket.socket]) -> dict[str, Any]:
+def open_directory(directory: str, name: str, keep: list[socket.socket], limit: float = LIMIT) -> dict[str, Any]:
     """Makes the check's own group in the directory. `fault` is the sentence that says why it cannot."""
     own = ""
     try:
@@ -130,7 +130,7 @@ def open_directory(directory: str, name: str, keep: list[socket.socket]) -> dict
         _room(directory)
         own = _make(directory, name)
         missing = _files(own)
-        ways = ["free"] if _is_free(own, keep) else ["D", "N", "T"]
+        ways = ["free"] if _is_free(own, keep, limit) else ["D", "N", "T"]
         return {"own": own, "missing": missing, "ways": ways, "kind": file_system(directory)}
     except (OSError, Unusable) as no:
         if own:

@@ -14,8 +14,8 @@ from .opening import Unusable
 from .worker import Hang, Worker
 
 NO_ANSWER = "no answer"
-# seconds that a change and a kill may take, and those when a difference is shown anew
-PATIENCE, SHORT_PATIENCE = 5.0, 0.3
+# how much of the limit a change and a kill may take, and how much when a difference is shown anew
+PATIENCE, SHORT_PATIENCE = 0.5, 0.03
 Next = Callable[[Engine], Optional[Words]]
 
 
@@ -57,7 +57,7 @@ class Player:
         self.limit = limit
         self.counts = Counts()
         self.sequences = 0
-        self.patience = PATIENCE
+        self.patience = limit * PATIENCE
         self.left: list[str] = []
         self.on_operation: Callable[[], None] = lambda: None
         self._worker = Worker(limit)
@@ -110,7 +110,7 @@ class Player:
     def play(self, way: str, following: Next, counts: Optional[Counts] = None) -> Optional[Difference]:
         """Plays the commands that `following` gives for the state of the engine, until it gives None or the two differ.
         Without counts it is one that was played before."""
-        self.patience = PATIENCE if counts else SHORT_PATIENCE
+        self.patience = self.limit * (PATIENCE if counts else SHORT_PATIENCE)
         counts = counts or Counts()
         self.sequences += 1
         engine = Engine(way, self.found["missing"], self.found["kind"] == "cgroup2")

@@ -16,6 +16,7 @@ import socket
 import time
 
 _SUBREAPER = 36  # PR_SET_CHILD_SUBREAPER
+LIMIT = 10.0  # seconds after which an operation hangs; what a process does may take a part of them
 
 
 def leave_no_zombies() -> None:
@@ -76,17 +77,17 @@ def _serve(by: socket.socket) -> None:
 
 
 class Process:
-    """A sleeping process, as the worker has it."""
+    """A sleeping process, as the worker has it. It may take half of the limit to answer, and a third to end."""
 
-    def __init__(self, at: socket.socket) -> None:
-        self._at = at
-        at.settimeout(5)
+    def __init__(self, at: socket.socket, limit: float = LIMIT) -> None:
+        self._at, self._limit = at, limit
+        at.settimeout(limit / 2)
         self.pid = int(at.recv(16) or b"0")
         if not self.pid:
             raise OSError(errno.ESRCH, "a process ended as it began")
 
     @classmethod
-    def first(cls, keep: list[socket.socket]) -> Process:
+    def first(cls, keep: list[socket.socket], limit: float = LIMIT) -> Process:
         """A child of the caller; it closes the sockets that the caller keeps."""
         ours, theirs = socket.socketpair(socket.AF_UNIX, socket.SOCK_SEQPACKET)
         if os.fork() == 0:
@@ -98,7 +99,7 @@ class Process:
             finally:
                 os._exit(1)
         theirs.close()
-        return cls(ours)
+        return cls(ours, limit)
 
     def fork(self) -> Process:
         """Its child. The OSError is that of its fork."""
@@ -113,18 +114,18 @@ class Process:
         if answer:
             ours.close()
             raise OSError(answer, os.strerror(answer))
-        return Process(ours)
+        return Process(ours, self._limit)
 
-    def end(self, seconds: float = 3) -> bool:
+    def end(self, seconds: float | None = None) -> bool:
         """It exits. Whether it has ended in time."""
         try:
             self._at.send(b"exit")
         except OSError:
             pass
         self._at.close()
-        return not wait_for_end([self.pid], seconds)
+        return not wait_for_end([self.pid], self._limit / 3 if seconds is None else seconds)
 
-    def slay(self, seconds: float = 3) -> bool:
+    def slay(self, seconds: float | None = None) -> bool:
         """It is killed. Whether it has ended in time."""
         try:
             os.kill(self.pid, signal.SIGKILL)

@@ -17,7 +17,7 @@ from typing import Any, NoReturn
 
 from .directory import Groups, remove_groups
 from .opening import open_directory
-from .processes import leave_no_zombies
+from .processes import LIMIT, leave_no_zombies
 
 
 class Hang(Exception):
@@ -56,15 +56,15 @@ def error_name(no: OSError) -> str:
 class _Worker:
     """The requests, each a method: it answers [errno or "ok", text]."""
 
-    def __init__(self, lines: _Lines) -> None:
-        self._lines = lines
+    def __init__(self, lines: _Lines, limit: float = LIMIT) -> None:
+        self._lines, self._limit = lines, limit
         self._own = ""
         self._groups: Groups | None = None
         self._sequences = 0
 
     def open(self, directory: str, name: str) -> Any:
         """Makes the check's own group, and answers what the directory is: a dictionary with `fault` if it is of no use."""
-        found = open_directory(directory, name, [self._lines.at])
+        found = open_directory(directory, name, [self._lines.at], self._limit)
         self._own = found.get("own", "")
         return found
 
@@ -74,7 +74,7 @@ class _Worker:
 
     def begin(self, way: str, patience: float) -> None:
         self._sequences += 1
-        self._groups = Groups(self._own, self._sequences, way, patience, [self._lines.at])
+        self._groups = Groups(self._own, self._sequences, way, patience, [self._lines.at], self._limit)
 
     def play(self, command: str, *words: Any) -> str:
         assert self._groups
@@ -111,7 +111,7 @@ class _Worker:
         return True
 
 
-def _live(at: socket.socket) -> NoReturn:
+def _live(at: socket.socket, limit: float) -> NoReturn:
     """The life of the worker."""
     status = 1
     try:
@@ -123,7 +123,7 @@ def _live(at: socket.socket) -> NoReturn:
         for number in (signal.SIGINT, signal.SIGTERM, signal.SIGHUP):
             signal.signal(number, signal.SIG_DFL)
         leave_no_zombies()
-        _Worker(_Lines(at)).serve()
+        _Worker(_Lines(at), limit).serve()
         status = 0
     finally:
         os._exit(status)
@@ -138,7 +138,7 @@ class Worker:
         self.pid = os.fork()
         if self.pid == 0:
             ours.close()
-            _live(theirs)
+            _live(theirs, limit)
         theirs.close()
         self._lines = _Lines(ours)
         self._number = 0

@@ -14,6 +14,7 @@ MAKHLOEUM, FAULTY = os.environ["MAKHLOEUM"], os.environ["FAULTY"]
 OPERATIONS = 3000
 LINES_AT_MOST = 12
 PATIENCE = 600  # seconds, for what takes some on an idle machine
+LIMIT = ["--limit", "40"]  # where something has to be missed, and is waited for in vain
 # Each planted fault, and what the directory does.
 FAULTS = {
     "one_too_few": "pids.current above a killed group is one too few",
@@ -109,6 +110,8 @@ def faulty(name, *more):
 
 
 def check(directory, *words):
+    """An operation may take as long as a busy machine lets it, if the words don't say otherwise."""
+    words = [*words] if "--limit" in words else [*words, "--limit", str(PATIENCE)]
     ran = subprocess.run([*CHECK, directory, *words], capture_output=True, text=True, timeout=6 * PATIENCE)
     return ran.returncode, ran.stdout, ran.stderr
 
@@ -145,7 +148,7 @@ def same_on(name, mount, count, *words):
 
 def same_under_run():
     """There limits refuse real forks, and /proc/PID/cgroup shows the group."""
-    command = [MAKHLOEUM, "run", "--", *CHECK, "/sys/fs/cgroup", "--count", "1500", "--no-worked"]
+    command = [MAKHLOEUM, "run", "--", *CHECK, "/sys/fs/cgroup", "--count", "1500", "--no-worked", "--limit", str(PATIENCE)]
     ran = subprocess.run(command, capture_output=True, text=True, timeout=6 * PATIENCE)
     if ran.returncode == 2 and "does not allow" in ran.stderr:
         print("look/test-check: makhloeum run: skipped, " + ran.stderr.strip())
@@ -185,7 +188,8 @@ def caught(name):
     began = time.monotonic()
     with faulty(name) as m:
         status, out, said = check(
-            m.at, "--no-worked", "--most", "1", "--shorten", str(PATIENCE), "--time", str(PATIENCE), "--count", "100000"
+            *(m.at, "--no-worked", "--most", "1", "--shorten", str(PATIENCE), "--time", str(PATIENCE)),
+            *("--count", "100000", *LIMIT),
         )
         seconds, script = time.monotonic() - began, script_of(out)
         if status != 1 or not script:
@@ -248,7 +252,7 @@ def hanging():
 
 def not_removed():
     with faulty("stays") as m:
-        status, out, said = check(m.at, "--no-worked", "--count", "50")
+        status, out, said = check(m.at, "--no-worked", "--count", "50", *LIMIT)
         step(
             "groups that cannot be removed: the status",
             status == 2 and ", 0 differences" in out,
@@ -260,7 +264,7 @@ def not_removed():
 def signalled(number, status):
     with adopting() as m:
         running = subprocess.Popen(
-            [*CHECK, m.at, "--count", "1000000"], stdout=subprocess.PIPE, stderr=subprocess.PIPE, text=True
+            [*CHECK, m.at, "--count", "1000000", "--limit", str(PATIENCE)], stdout=subprocess.PIPE, stderr=subprocess.PIPE, text=True
         )
         step("it runs", until(m.is_played))
         running.send_signal(number)
@@ -324,7 +328,7 @@ def unusable():
 
 def progress():
     with adopting() as m:
-        _, out, said = check(m.at, "--no-worked", "--time", "12", "--count", "1000000")
+        _, out, said = check(m.at, "--no-worked", "--time", "12", "--count", "1000000", *LIMIT)
         step("progress", re.search(r"^\d+ operations, 0 differences, \d+ a second$", said, re.M), said)
         told = re.search(r"operations in (\d+\.\d) s", out)
         step("--time ends it, and not before", told and float(told[1]) >= 12, out)

@@ -36,8 +36,11 @@ class Process:
     def __init__(self, pid):
         self.pid = pid
 
+    limits: list = []
+
     @classmethod
-    def first(cls, keep):
+    def first(cls, keep, limit):
+        cls.limits.append(limit)
         return cls(1).fork()
 
     def fork(self):
@@ -462,6 +465,14 @@ def test_an_open_file_that_keeps_its_first_text_is_found(player, monkeypatch):
         if found:
             break
     assert found and found.played[-1][0] == "reread" and Engine("free", [], False).close() is None
+
+
+def test_each_process_of_a_check_has_its_limit(served):
+    at = _Worker(types.SimpleNamespace(at=None), 70)
+    Process.limits.clear()
+    assert at.open(AT, "checked")["ways"] == ["free"] and Process.limits == [70, 70]
+    at.begin("free", 1.0)
+    assert Process.limits == [70, 70, 70] and at.close() == []
 
 
 @pytest.mark.parametrize("left", ["top3", "home3"])

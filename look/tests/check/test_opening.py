@@ -125,8 +125,8 @@ class Sleeping:
         self.started.append(self)
 
     @classmethod
-    def first(cls, keep):
-        assert keep == ["kept"]
+    def first(cls, keep, limit):
+        assert keep == ["kept"] and limit == 7
         return cls()
 
     def slay(self):
@@ -160,10 +160,10 @@ def test_whether_a_group_with_children_may_hold_processes(tmp_path, monkeypatch,
     monkeypatch.setattr(opening, "Process", Sleeping)
     monkeypatch.setattr(Sleeping, "started", [])
     if isinstance(wanted, bool):
-        assert opening._is_free(own, ["kept"]) is wanted
+        assert opening._is_free(own, ["kept"], 7) is wanted
     else:
         with pytest.raises(Unusable, match=f"^a process cannot be moved into it: {os.strerror(wanted)}$"):
-            opening._is_free(own, ["kept"])
+            opening._is_free(own, ["kept"], 7)
     on = [("cgroup.subtree_control", "+pids"), ("inner/cgroup.subtree_control", "+pids")] if controlled else []
     moves = [("inner/cgroup.procs", "100"), ("inner/leaf/cgroup.procs", "101")]
     assert told == on + moves[: 1 if "inner" in failures else 2]

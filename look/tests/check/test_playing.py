@@ -97,7 +97,7 @@ def test_what_the_worker_is_asked_of_a_sequence(scripted):
     player.on_operation = lambda: told.append(counts.operations)
     lines = ["mkdir /a", "write /a pids.max 1", "undo", "fork 1 2", "write /a cgroup.procs 2", "fork 2 3", "watch /a"]
     assert player.play("free", commands(*lines, "told /a"), counts) is None
-    assert scripted.asked[1] == ["begin", "free", 5.0] and scripted.asked[-1] == ["end"]
+    assert scripted.asked[1] == ["begin", "free", 1.25] and scripted.asked[-1] == ["end"]
     assert plays(scripted.asked) == [
         ["mkdir", "/a"],
         ["write", "/a", "pids.max", "1", []],
@@ -121,10 +121,10 @@ def test_a_change_is_due_where_the_engine_saw_one(scripted):
 def test_a_sequence_that_is_tried_again_is_not_counted(scripted):
     player = scripted()
     assert player.play("D", commands("mkdir /a", "rmdir /a")) is None
-    assert scripted.asked[1] == ["begin", "D", 0.3] and player.counts.operations == 0
+    assert scripted.asked[1] == ["begin", "D", pytest.approx(0.075)] and player.counts.operations == 0
     assert player.play("D", commands("mkdir /a"), player.counts) is None
     assert scripted.asked[-3][:2] == ["begin", "D"] and player.counts.operations == 1 and player.sequences == 2
-    assert player.patience == 5.0
+    assert player.patience == 1.25, "half of the limit"
 
 
 def test_a_contradiction_ends_the_sequence(scripted):

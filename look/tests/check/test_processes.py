@@ -68,7 +68,7 @@ def until(what):
 
 def test_processes_fork_and_end():
     def body():
-        first = Process.first([])
+        first = Process.first([], PATIENCE)
         child = first.fork()
         grandchild, other = child.fork(), first.fork()
         assert parent_of(first.pid) == os.getpid() and parent_of(child.pid) == parent_of(other.pid) == first.pid
@@ -79,6 +79,7 @@ def test_processes_fork_and_end():
         )
         more = grandchild.fork()
         assert parent_of(more.pid) == grandchild.pid, "an orphan goes on"
+        assert [it._at.gettimeout() for it in (first, more)] == [PATIENCE / 2] * 2, "half of the limit"
         for process in (more, grandchild, other, first):
             assert process.slay(PATIENCE) is True and not is_alive(process.pid)
         assert first.slay(PATIENCE) is True and first.end(PATIENCE) is True, "it may have ended already"
@@ -86,9 +87,27 @@ def test_processes_fork_and_end():
     in_a_child(body)
 
 
+def test_how_long_an_end_is_waited_for(monkeypatch):
+    """A third of the limit, if the caller doesn't say otherwise."""
+    waited = []
+    monkeypatch.setattr(processes, "wait_for_end", lambda pids, seconds: waited.append((pids, seconds)) or pids)
+    monkeypatch.setattr(processes.os, "kill", lambda pid, number: waited.append((pid, number)))
+    for how, words, wanted in (
+        ("end", (), [([4711], 20)]),
+        ("end", (0,), [([4711], 0)]),
+        ("slay", (), [(4711, signal.SIGKILL), ([4711], 20)]),
+        ("slay", (5,), [(4711, signal.SIGKILL), ([4711], 5)]),
+    ):
+        ours, theirs = socket.socketpair()
+        with theirs:
+            theirs.send(b"4711")
+            assert getattr(Process(ours, 60), how)(*words) is False and waited == wanted
+        waited.clear()
+
+
 def test_a_process_ends_with_its_socket():
     def body():
-        first = Process.first([])
+        first = Process.first([], PATIENCE)
         child = first.fork()
         child._at.close()
         assert wait_for_end([child.pid], PATIENCE) == [] and is_alive(first.pid)
@@ -105,7 +124,7 @@ def test_a_process_has_no_socket_of_the_worker():
         before = sockets_of(os.getpid())
         ours, theirs = socket.socketpair()
         theirs.settimeout(PATIENCE)
-        first = Process.first([ours, theirs.dup()])
+        first = Process.first([ours, theirs.dup()], PATIENCE)
         child = first.fork()
         before.add(f"socket:[{os.fstat(theirs.fileno()).st_ino}]")
         own = [lambda it=it: sockets_of(it.pid) - before for it in (first, child)]
@@ -121,7 +140,7 @@ def test_a_process_has_no_socket_of_the_worker():
 def test_a_process_that_was_ended_leaves_no_socket():
     def body():
         before = sockets_of(os.getpid())
-        first = Process.first([])
+        first = Process.first([], PATIENCE)
         child = first.fork()
         assert len(sockets_of(os.getpid()) - before) == 2
         assert child.end(PATIENCE) and first.slay(PATIENCE)
@@ -132,7 +151,7 @@ def test_a_process_that_was_ended_leaves_no_socket():
 
 def test_a_process_that_has_ended_forks_nothing():
     def body():
-        first = Process.first([])
+        first = Process.first([], PATIENCE)
         os.kill(first.pid, signal.SIGKILL)
         assert wait_for_end([first.pid], PATIENCE) == []
         for _ in range(2):
