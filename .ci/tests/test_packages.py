@@ -2,6 +2,7 @@
 the date of all files, and which files a tree has."""
 import hashlib
 import os
+import re
 import runpy
 import shutil
 import stat
@@ -179,6 +180,106 @@ class Packages(unittest.TestCase):
         for command in ("view", "tree", "check"):
             self.assertTrue(os.access(f"{self.top}/tree/libexec/makhloeum/makhloeum-{command}", os.X_OK), command)
         self.assertFalse([name for name in os.listdir(f"{at}/makhloeum/go") if name.endswith("_test.go")])
+
+    def linked(self, at, *without):
+        """A clone whose parts are links to those of this one, without some: programs, or the library."""
+        for folder in sorted({"", *(os.path.dirname(path) for path in without)}):
+            os.makedirs(f"{self.top}/{at}/{folder}", exist_ok=True)
+            for name in os.listdir(f"{TOP}/{folder}"):
+                path = os.path.join(folder, name)
+                if not any(it == path or it.startswith(f"{path}/") for it in without):
+                    os.symlink(f"{TOP}/{path}", f"{self.top}/{at}/{path}")
+
+    def test_a_tree_has_what_is_installed_for_everybody(self):
+        if not os.path.exists(f"{TOP}/bindings/out/libmakhloeum.a") or not shutil.which("objcopy"):
+            self.skipTest("there is no library, or no objcopy")
+        self.linked("clone", "crates", "mount/out")
+        before = os.umask(0o077)
+        self.addCleanup(os.umask, before)
+        programs = {f"crates/{name}/out/{name}" for name in ("cgreplay", "cgshell")} | {"mount/out/makhloeum"}
+        status, out, said = self.run_it("clone/.ci/tree", f"{self.top}/tree")
+        missing = {f"install: without {path.split('/')[-1]}: {path} has not been built" for path in programs}
+        self.assertEqual((status, out, set(said.splitlines())), (0, "", missing))
+        version, date = (self.run_it(f"{TOP}/bindings/version", *words)[1].strip() for words in ((), ("date",)))
+        wanted = {"include/makhloeum.h": f"{TOP}/bindings/c/makhloeum.h"}
+        for source, pattern, place in (
+            ("man", r".*\.(\d)", r"share/man/man\1"),
+            ("docs", r".*\.(md|svg|png)|Containerfile", "share/doc/makhloeum/docs"),
+            ("docs/reference", r".*\.md", "share/doc/makhloeum/docs/reference"),
+            ("evidence", r"README\.md", "share/doc/makhloeum/evidence"),
+            ("evidence/bench", r"NOTES\.md", "share/doc/makhloeum/evidence/bench"),
+            ("mount", r"README\.md", "share/doc/makhloeum/mount"),
+            ("", r"(README|CONTRIBUTING|CHANGELOG|RELEASE)\.md|LICENSE-(MIT|APACHE)", "share/doc/makhloeum"),
+            ("bindings/go", r"(?!\.|.*_test\.go|libmakhloeum\.a).*", "share/makhloeum/go"),
+            ("bindings/go/makhloeumtest", r"(?!\.|.*_test\.go).*", "share/makhloeum/go/makhloeumtest"),
+            ("bindings/examples", r".*\.(c|py)", "share/makhloeum/examples"),
+            *(
+                (f"bindings/examples/{it}", r"main\.go|go\.mod", f"share/makhloeum/examples/{it}")
+                for it in ("manager", "watcher")
+            ),
+            ("bindings/python", r"makhloeum_pytest\.py", "share/makhloeum/python"),
+            ("completion", "makhloeum", "share/bash-completion/completions"),
+            ("completion", "_makhloeum", "share/zsh/site-functions"),
+            ("completion", r"makhloeum\.fish", "share/fish/vendor_completions.d"),
+        ):
+            names = [it.name for it in os.scandir(f"{TOP}/{source}") if it.is_file() and re.fullmatch(pattern, it.name)]
+            self.assertGreater(len(names), 0, source)
+            for name in names:
+                wanted[f"{re.fullmatch(pattern, name).expand(place)}/{name}"] = os.path.join(TOP, source, name)
+        at, made = f"{self.top}/tree", {}
+        for folder, below, names in os.walk(at):
+            for name in (*below, *names):
+                path = os.path.relpath(f"{folder}/{name}", at)
+                if not os.path.islink(f"{at}/{path}"):
+                    runs = name in below or path.startswith("libexec/") or re.fullmatch(r"lib/lib.*\.so\..*", path)
+                    self.assertEqual(stat.S_IMODE(os.stat(f"{at}/{path}").st_mode), 0o755 if runs else 0o644, path)
+                made[path] = os.readlink(f"{at}/{path}") if os.path.islink(f"{at}/{path}") else name in below
+        for path, source in wanted.items():
+            with open(f"{at}/{path}", "rb") as it, open(source, "rb") as own:
+                self.assertEqual(it.read(), own.read().replace(b"@DATE@", date.encode(), 1), path)
+        links = {path: target for path, target in made.items() if isinstance(target, str) and not path.endswith(".3")}
+        bash, fish = "share/bash-completion/completions/", "share/fish/vendor_completions.d/"
+        library = f"libmakhloeum.so.{version}"
+        self.assertEqual(
+            links,
+            {
+                **{f"{bash}{it}": "makhloeum" for it in ("cgreplay", "cgshell")},
+                **{f"{fish}{it}.fish": "makhloeum.fish" for it in ("cgreplay", "cgshell")},
+                "lib/libmakhloeum.so": "libmakhloeum.so.1",
+                "lib/libmakhloeum.so.1": library,
+            },
+        )
+        python = f"share/makhloeum/python/makhloeum-{version}.dist-info"
+        others = {path for path, kind in made.items() if kind is False and path not in wanted}
+        others = {path for path in others if not path.startswith("share/makhloeum/python/makhloeum/")}
+        self.assertEqual(
+            others,
+            {
+                *(f"libexec/makhloeum/makhloeum-{command}" for command in ("view", "tree", "check")),
+                *("lib/libmakhloeum.a", "lib/pkgconfig/makhloeum.pc", f"lib/{library}", f"lib/.debug/{library}.debug"),
+                *("share/makhloeum/go/libmakhloeum.a", f"{python}/METADATA", f"{python}/entry_points.txt"),
+            },
+        )
+        for path, text in (
+            (f"{python}/METADATA", f"Metadata-Version: 2.1\nName: makhloeum\nVersion: {version}\n"),
+            (f"{python}/entry_points.txt", "[pytest11]\nmakhloeum.pytest_plugin = makhloeum_pytest\n"),
+        ):
+            self.assertEqual(self.read(f"tree/{path}"), text)
+        with open(f"{TOP}/bindings/makhloeum.pc.in", encoding="ascii") as it:
+            self.assertEqual(self.read("tree/lib/pkgconfig/makhloeum.pc"), it.read().replace("@VERSION@", version))
+        for path in ("lib/libmakhloeum.a", f"lib/{library}", "share/makhloeum/go/libmakhloeum.a"):
+            self.assertNotIn("debug_info", self.run_it("readelf", "-SW", f"{at}/{path}")[1], path)
+        sections = self.run_it("readelf", "-SW", f"{at}/lib/{library}")[1]
+        self.assertIn(" .gnu_debuglink ", sections)
+        self.assertNotIn(" .comment ", sections)
+        self.assertIn(" .debug_info ", self.run_it("readelf", "-SW", f"{at}/lib/.debug/{library}.debug")[1])
+
+    def test_there_is_no_tree_without_the_library(self):
+        self.linked("clone", "bindings/out")
+        name = f"libmakhloeum.so.{self.run_it(f'{TOP}/bindings/version')[1].strip()}"
+        fault = f"install: bindings/out has no {name}: run bindings/build first\n"
+        self.assertEqual(self.run_it("clone/.ci/tree", f"{self.top}/tree"), (1, "", fault))
+        self.assertFalse(os.path.exists(f"{self.top}/tree"))
 
     def test_a_library_says_how_it_was_made(self):
         """Its version is that of the header; after that of ./try's library come two words."""
