@@ -1,7 +1,10 @@
 """Tests of bindings/models: what it takes for a wrong result, and how it makes a sequence short."""
+import contextlib
+import io
 import os
 import sys
 import unittest
+from unittest import mock
 
 from scripts import TOP, load
 
@@ -153,6 +156,64 @@ class Short(unittest.TestCase):
         lines = ["0 mkdir /a", "0 peak /a"]
         short = shortened(driver, ("new", lines), Wrong(1, "ok 7", "ok 0"), lambda: False)
         self.assertEqual((short[0][1], driver.played), (lines, 0))
+
+
+class Played:
+    """A driver in a language, whose result of each sequence is the language and its number."""
+
+    said, folders = "before" * 400 + "the last words", []
+
+    def __init__(self, language, folder):
+        self.language, self.played = language, []
+        self.folders.append(folder)
+
+    def play(self, sequences):
+        self.played += sequences
+        return [(self.language, lines[0]) for _, lines in sequences]
+
+
+class Whole(unittest.TestCase):
+    """Sequences of two calls, the first of which is the number of the sequence; three are played together."""
+
+    def said(self, *words, wrong_at=None, how="new", got="ok 7"):
+        def is_wrong(language, lines, results):
+            self.assertEqual(results, (language, lines[0]))
+            return Wrong(1, got, "ok 8") if results == wrong_at else None
+
+        def short(driver, sequence, it, has_time):
+            self.assertEqual((driver.language, sequence[1][0], has_time()), (*wrong_at, True))
+            return (how, ["one", "another"]), it
+
+        drawing = mock.Mock(side_effect=lambda number: mock.Mock(sequence=lambda: (how, [number, "call"])))
+        parts = {"Draw": drawing, "Driver": Played, "wrong": is_wrong, "shortened": short, "BATCH": 3}
+        out, err = io.StringIO(), io.StringIO()
+        with mock.patch.multiple(models, **parts), contextlib.redirect_stdout(out), contextlib.redirect_stderr(err):
+            status = models.main([*words])
+        return status, out.getvalue().splitlines(), err.getvalue()
+
+    def test_sequences_that_are_right(self):
+        status, lines, _ = self.said("0", "30", "c", "python")
+        self.assertEqual((status, lines[0], lines[-1]), (0, "models: the first sequence is 30", "6 passed, 0 failed"))
+        for language, line in zip(("c", "python"), lines[1:3]):
+            self.assertRegex(line, rf"^models: {language}: 6 calls, [\d,]+ a second$")
+        self.assertEqual(len(lines), 4)
+        self.assertFalse(os.path.exists(Played.folders[-1]))
+
+    def test_a_wrong_result_ends_it(self):
+        status, lines, _ = self.said("1000", "30", "c", "go", wrong_at=("go", 34))
+        told = ["models: go, sequence 34: a wrong result of the last call of", "  one", "  another"]
+        self.assertEqual((status, lines[1:6]), (1, [*told, "  its result:  ok 7", "  it should be ok 8"]))
+        # the first three of both, then three of C and one of Go
+        self.assertEqual(lines[-1], "10 passed, 1 failed")
+        self.assertEqual([line.split(",")[0] for line in lines[6:8]], ["models: c: 12 calls", "models: go: 8 calls"])
+
+    def test_a_program_that_ended_shows_what_it_said(self):
+        _, lines, _ = self.said("1000", "c", wrong_at=("c", 0), how="threads", got=ENDED)
+        self.assertEqual(lines[1], "models: c, sequence 0 with threads: a wrong result of the last call of")
+        self.assertEqual(lines[6].split("models: ")[0], Played.said[-2000:])
+
+    def test_other_words_are_refused(self):
+        self.assertEqual(self.said("1", "2", "3"), (2, [], f"{models.__doc__}\n"))
 
 
 class Words(unittest.TestCase):

@@ -41,8 +41,6 @@ def in_memory():
 
 
 def by_pipes(program):
-    shell = subprocess.Popen([program], stdin=subprocess.PIPE, stdout=subprocess.PIPE)
-
     def ask(line, lines):
         shell.stdin.write(line)
         shell.stdin.flush()
@@ -53,12 +51,12 @@ def by_pipes(program):
         ask(b"fork 2 3\n", 1)
         ask(b"undo\n", 2)
 
-    for line in (b"mkdir /a\n", b"fork 1 2\n", b"write /a cgroup.procs 2\n"):
-        ask(line, 1)
-    say("cats by pipes to cgshell", best_of(lambda: ask(b"cat /a pids.current\n", 2), PIPED, time.perf_counter), PIPED)
-    say("forks with their undos by pipes", best_of(fork_and_undo, PIPED, time.perf_counter), PIPED)
-    shell.stdin.close()
-    shell.wait()
+    with subprocess.Popen([program], stdin=subprocess.PIPE, stdout=subprocess.PIPE) as shell:
+        for line in (b"mkdir /a\n", b"fork 1 2\n", b"write /a cgroup.procs 2\n"):
+            ask(line, 1)
+        cat = best_of(lambda: ask(b"cat /a pids.current\n", 2), PIPED, time.perf_counter)
+        say("cats by pipes to cgshell", cat, PIPED)
+        say("forks with their undos by pipes", best_of(fork_and_undo, PIPED, time.perf_counter), PIPED)
 
 
 def sweeps():
