@@ -422,12 +422,57 @@ class OfAMadeUpRepository(unittest.TestCase):
         self.assertTrue(said.endswith("rows.recorded:" + ",".join(map(str, range(1, 40)))))
 
     def test_several_words_are_one_name(self):
-        said = io.StringIO()
-        with mock.patch.object(where, "repository", lambda: self.TEXTS), contextlib.redirect_stdout(said):
-            self.assertEqual(where.main(["is", "a", "number"]), 0)
-            self.assertEqual(where.main(["--all"]), 1)
-        first = ["is a number", "documents   README.md:1", "--all: no file of the repository has it"]
-        self.assertEqual([line for line in said.getvalue().split("\n") if line in first], first)
+        self.assertEqual(self.said_by("is", "a", "number"), (0, "is a number\ndocuments   README.md:1\n", ""))
+        self.assertEqual(self.said_by("--all"), (1, "--all: no file of the repository has it\n", ""))
+
+    def said_by(self, *words):
+        """The status of the program, and what it says on its output and as an error."""
+        out, error = io.StringIO(), io.StringIO()
+        with mock.patch.object(where, "repository", lambda: self.TEXTS):
+            with contextlib.redirect_stdout(out), contextlib.redirect_stderr(error):
+                return where.main([*words]), out.getvalue(), error.getvalue()
+
+    def test_its_own_words(self):
+        for words, status, out, error in (
+            ([], 2, "", f"{where.__doc__}\n"),
+            (["--"], 2, "", f"{where.__doc__}\n"),
+            (["--help"], 0, f"{where.__doc__}\n", ""),
+            (["--", "--help"], 1, "--help: no file of the repository has it\n", ""),
+            (["--", "--keep"], 0, "\n".join(self.screen("--keep")) + "\n", ""),
+            (["--all", "--", "absent", "here"], 1, "absent here: no file of the repository has it\n", ""),
+        ):
+            self.assertEqual(self.said_by(*words), (status, out, error), words)
+
+    def test_definitions_of_the_model_are_first_and_those_of_crates_next(self):
+        texts = {
+            "bindings/a.py": "def Sum():\n",
+            "crates/low/specs/Sum.antt": "-- A sum.\nabbrev pub Sum : Type 0\n",
+            "crates/low/src/a.rt": "pub struct Sum {\n",
+            "crates/high/src/b.rt": "\n\npub struct Sum {\n",
+        }
+        found = [
+            "defined     low/specs/Sum.antt:2 abbrev pub Sum : Type 0",
+            "            high/src/b.rt:3 pub struct Sum {",
+            "            low/src/a.rt:1 pub struct Sum {",
+            "            bindings/a.py:1 def Sum():",
+        ]
+        self.assertEqual([line for line in where.Search("Sum", texts).screen() if ":" in line][:4], found)
+
+    def test_a_file_that_can_not_be_read_has_no_text(self):
+        with tempfile.TemporaryDirectory() as top:
+            self.assertEqual(where.readable(top), "")
+            with open(f"{top}/a", "wb") as it:
+                it.write(b"a\xff\n")
+            self.assertEqual(where.readable(f"{top}/a"), "a\ufffd\n")
+
+    def test_the_signature_of_a_private_function_is_looked_for_in_its_crate(self):
+        texts = {
+            "crates/low/src/sum.rt": "impl Sum {\n    fn add(self) {\n    }\n    fn twice(self) {\n        self.add()\n    }\n}\n",
+            "crates/high/src/top.rt": "fn top(a: Sum) {\n    a.add()\n}\n",
+        }
+        self.assertIn("code        low/src/sum.rt:5", where.Search("Sum::add", texts).screen())
+        texts["crates/low/src/sum.rt"] = texts["crates/low/src/sum.rt"].replace("    fn add", "    pub fn add")
+        self.assertIn("code        high/src/top.rt:2; low/src/sum.rt:5", where.Search("Sum::add", texts).screen())
 
     def test_words_that_are_in_one_line_but_not_one_after_the_other(self):
         apart = "  no line has these words one after the other; these lines have each of them"
