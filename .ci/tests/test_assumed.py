@@ -14,6 +14,7 @@ axioms os: 1 reached of the 2 declared
   os::c::rattle_errno   reached
 axioms std: none reached of the 2 declared
   std::process::c::abort
+logical threads=none
 logic=proved functions=1 axioms=3 target=x86_64{} main=Threads sum=dac8
 """
 READS = {("libc", "read"), ("libc", "send"), ("os", "rattle_errno")}

@@ -231,6 +231,11 @@ class Kernel(TestCase):
             self.assertEqual((ran.returncode, ran.stdout, ran.stderr), (2, "", fault))
             self.assertEqual(self.text(f"{self.place}/got").splitlines(), wanted)
 
+    def test_a_step_that_fails_ends_it(self):
+        self.write("programs/dpkg-deb", "#!/bin/sh\nexit 1\n", 0o755)
+        self.assertNotEqual(self.ran()[0], 0)
+        self.assertFalse(os.path.exists(f"{self.place}/qemu"), "no machine is started")
+
     def test_what_is_missing_is_named(self):
         status, said = self.ran(IMAGE="", KERNEL="5.10")
         self.assertEqual((status, said), (2, f"{SCRIPT}: KERNEL is 6.12 or 6.1, not 5.10\n"))

@@ -1,5 +1,9 @@
 """Tests of .ci/recipes with a made-up page, whose programs are those of every machine."""
 import os
+import shutil
+import signal
+import subprocess
+import time
 import unittest
 from unittest import mock
 
@@ -80,7 +84,24 @@ class Recipes(MadeUp):
 
     def test_no_end_fails(self):
         self.patch("SECONDS", 0.5)
-        self.assertIn("sleep 1000: no end", self.second("sleep 1000"))
+        said = self.second("sleep 1000")
+        self.assertIn("sleep 1000: no end", said)
+        self.assertIn("\n  no end within 0.5 seconds\n", said)
+        self.assertNotIn("left behind", said, "what it started was killed")
+
+    def test_a_command_that_fails_is_shown_with_what_it_said(self):
+        self.assertIn(
+            "exit 4): status 4: an output\nan error\n", self.second("(echo an output; echo an error >&2; exit 4)")
+        )
+        self.assertIn("it printed 'b', not 'a': an error\n", self.second("echo b; echo an error >&2    # a"))
+
+    def test_the_programs_of_this_build_come_first(self):
+        self.second(f"echo ${{PATH%%:*}}    # {self.top}/mount/out", status=0)
+
+    def test_a_signal_that_the_caller_ignores_is_not_ignored(self):
+        before = signal.signal(signal.SIGINT, signal.SIG_IGN)
+        self.addCleanup(signal.signal, signal.SIGINT, before)
+        self.second("sh -c 'kill -INT $$; echo it lives' || echo it ended    # it ended", status=0)
 
     def test_what_is_about_to_go_is_waited_for(self):
         for left in ((["7"], []), ([], ["a mount"])):
@@ -101,6 +122,100 @@ class Recipes(MadeUp):
 
     def test_an_unknown_name(self):
         self.assertIn("no recipe Third", self.said("Third", status=2))
+        self.write("docs/RUNNING.md", "# A page\n")
+        self.said(status=2)
+
+
+class Packages(MadeUp):
+    """What is there, what is installed, and what a machine lacks."""
+
+    program = recipes
+    places = {"POLICY": "policy"}
+
+    def setUp(self):
+        super().setUp()
+        self.there, self.calls, self.installs = {"here"}, [], True
+        self.answer = subprocess.CompletedProcess([], 0, "", "")
+        self.patch("subprocess", mock.Mock(run=self.ran, DEVNULL=-3, PIPE=-1, STDOUT=-2))
+        self.patch("os", mock.Mock(wraps=os, path=os.path, environ={"HOME": "/home"}, geteuid=lambda: 0))
+        self.patch("shutil", mock.Mock(which=lambda name: f"/bin/{name}"))
+
+    def ran(self, words, **how):
+        policy = self.read("policy") if os.path.exists(f"{self.top}/policy") else ""
+        self.calls.append((words, how, policy))
+        if words[:2] == ["apt-get", "install"]:
+            self.assertTrue(os.access(f"{self.top}/policy", os.X_OK))
+            self.there |= set(words[5:]) if self.installs else set()
+        if words[0] == "dpkg-query":
+            said = "install ok installed" if words[-1] in self.there else "deinstall ok config-files"
+            return subprocess.CompletedProcess(words, 0, said)
+        return self.answer
+
+    def test_missing_packages_are_installed_without_their_services(self):
+        self.assertTrue(recipes.install(["here", "one", "two"]))
+        (update, how, policy), (install, also, same) = [it for it in self.calls if it[0][0] == "apt-get"]
+        self.assertEqual(update, ["apt-get", "update", "-qq"])
+        self.assertEqual(install, ["apt-get", "install", "-y", "-qq", "--no-install-recommends", "one", "two"])
+        self.assertEqual((policy, same), ("#!/bin/sh\nexit 101\n",) * 2)
+        self.assertEqual(how, also)
+        wanted = {"env": {"HOME": "/home", "DEBIAN_FRONTEND": "noninteractive"}, "check": False}
+        self.assertEqual(how, {**wanted, "stdin": -3, "stdout": -3})
+        self.assertFalse(os.path.exists(f"{self.top}/policy"))
+
+    def test_nothing_is_installed_if_all_is_there(self):
+        self.assertTrue(recipes.install(["here"]))
+        words = ["dpkg-query", "--show", "--showformat", "${Status}", "here"]
+        self.assertEqual([it[0] for it in self.calls], [words])
+
+    def test_what_a_machine_says_of_services_stays(self):
+        self.write("policy", "own\n", 0o755)
+        self.installs = False
+        self.assertFalse(recipes.install(["one"]))
+        self.assertEqual(self.read("policy"), "own\n")
+
+    def test_what_a_machine_lacks(self):
+        self.assertEqual(recipes.lacks(["one"]), "")
+        started = self.calls[-1][0]
+        self.assertEqual(started, [f"{self.top}/mount/out/makhloeum", "run", "--users", "true"])
+        for status, said in ((2, "no user namespaces"), (1, ""), (0, "")):
+            self.answer = subprocess.CompletedProcess([], status, "no user namespaces\n")
+            self.assertEqual(recipes.lacks(["one"]), said, status)
+        self.installs = False
+        self.assertEqual(recipes.lacks(["here", "no"]), "not all of these can be installed: here, no")
+        self.patch("shutil", mock.Mock(which=lambda name: None))
+        self.assertEqual(recipes.lacks(["here"]), "it needs Debian's packages")
+        self.patch("os", mock.Mock(geteuid=lambda: 1000))
+        self.assertEqual(recipes.lacks(["here"]), "it needs root")
+
+
+class Left(MadeUp):
+    program = recipes
+
+    def test_processes_and_mounts_that_are_left(self):
+        os.mkdir(f"{self.top}/a")
+        os.mkdir(f"{self.top}/ab")
+        shutil.copy(shutil.which("sleep"), f"{self.top}/a/sleep")
+        self.patch(
+            "read",
+            lambda path: f"x {self.top}/a fuse\ny {self.top}/a/b fuse\nz /{self.top}/a\n"
+            * (path == "/proc/self/mounts"),
+        )
+        folder, there = f"{self.top}/a", []
+        for words, at in (
+            ([f"{folder}/sleep", "600"], "/"),
+            (["sleep", "600"], folder),
+            (["sleep", "600"], f"{folder}b"),
+        ):
+            there.append(subprocess.Popen(words, cwd=at))
+            self.addCleanup(there[-1].wait)
+            self.addCleanup(there[-1].kill)
+        end = time.monotonic() + 300
+        # a child may have its program and its folder only after Popen returned
+        while len(recipes.left_by(folder)[0]) < 2 and time.monotonic() < end:
+            time.sleep(0.01)
+        processes, mounts = recipes.left_by(folder)
+        self.assertEqual(sorted(map(int, processes)), sorted(it.pid for it in there[:2]))
+        self.assertEqual(mounts, [f"x {folder} fuse", f"y {folder}/b fuse"])
 
 
 if __name__ == "__main__":
