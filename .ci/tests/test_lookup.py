@@ -121,6 +121,8 @@ impl<A: Allocator> Node<A> {
 pub fn make() -> Text<Global> {
     0
 }
+
+pub struct Pair(pub Node<Global>, pub(crate) Text<Global>);
 """
 
 # each line with the type whose function it calls; None where the text doesn't tell, and - for a type without such a function
@@ -162,6 +164,22 @@ LINES = (
     ("if *alias.copy(alloc) == &mut 1 {}", "Node"),
     ("call(&alias.copy(alloc));", "Node"),
     ("number.copy(alloc);", "-"),
+    ("pair.0.copy(alloc);", "Node"),
+    ("pair.1.copy(alloc);", "Text"),
+    ("pair.2.copy(alloc);", None),
+    ("let Some(alias) = maybe else { return 0 }; alias.copy(alloc);", "Text"),
+    ("let alias = maybe.unwrap(); alias.copy(alloc);", "Text"),
+    ("match maybe { Some(alias) if number > 1 => alias.copy(alloc), _ => 0 };", None),
+    *(
+        (f"alias.{name}(1).copy(alloc);", "Node")
+        for name in ("as_slice", "as_mut_slice", "as_ref", "as_mut", "iter", "by_ref", "map_err", "ok_or", "borrow")
+    ),
+    *((f"maybe.{name}(1).copy(alloc);", "Text") for name in ("unwrap_or", "unwrap_or_else", "unwrap", "expect")),
+    *((f"alias.{name}(1).copy(alloc);", None) for name in ("unwrap", "expect", "get", "pop")),
+    *(
+        (f"texts.{name}(1)?.copy(alloc);", "Text")
+        for name in ("get", "get_mut", "last", "last_mut", "first", "pop", "next")
+    ),
 )
 
 
@@ -200,7 +218,7 @@ class Receivers(unittest.TestCase):
     def test_each_form_of_a_receiver(self):
         takes = "alias: &Alias<Global>, rail: GuardRail, guard: NodeGuard<Global>, list: &[Node<Global>], number: u64"
         takes += ", mut texts: Vec<Text<Global>>, boxed: Box<Node<Global>>, place: &Place<Global>"
-        takes += ", maybe: Option<Text<Global>>, tried: Result<Text<Global>, Node<Global>>"
+        takes += ", maybe: Option<Text<Global>>, tried: Result<Text<Global>, Node<Global>>, pair: &Pair"
         for line, owner in LINES:
             caller = f"fn call({takes}) -> u8 {{\n    {line}\n}}\n"
             texts = {**self.TEXTS, "crates/low/src/more.rt": MORE, "crates/high/src/caller.rt": caller}
@@ -224,9 +242,40 @@ class Receivers(unittest.TestCase):
             found = receivers.Rattle({**texts, path: caller}).calls(path, "copy", "Node")
             self.assertEqual(found, {2: answer}, crate)
 
+    def test_the_name_and_the_arguments_of_a_type(self):
+        for text, name, arguments in (
+            ("&'a mut x::y::Vec<T, Node<A>>", "Vec", ["T", "Node<A>"]),
+            ("  &dyn Walk", "Walk", []),
+            ("impl Walk<A>", "Walk", ["A"]),
+            ("*const u8", None, []),
+            ("const u8", "u8", []),
+            ("( Node<A> )", "Node", ["A"]),
+            ("[Node<A>; 3]", "Slice", ["Node<A>"]),
+            ("&mut [ u8 ]", "Slice", ["u8"]),
+            ("Vec::<T>", "Vec", ["T"]),
+            ("", None, []),
+            (None, None, []),
+        ):
+            self.assertEqual(receivers.split_type(text), (name, arguments), text)
+
+    def test_what_stands_behind_a_function(self):
+        text = "fn f<'a, A: low::Allocator + Clone, const N : usize, B>(&self, mut a: &'a B, at : C<D, E>) -> F<A> where A: G {\n"
+        found = receivers.Signature(text, 3)
+        self.assertEqual(found.generics, {"'a": [], "A": ["Allocator", "Clone"], "N": ["usize"], "B": []})
+        self.assertEqual((found.takes, found.returns), ({"a": "&'a B", "at": "C<D, E>"}, "F<A>"))
+        for text, returns in (
+            ("fn f() {\n", None),
+            ("fn f() -> A;\n", "A"),
+            ("fn f() -> A {\n", "A"),
+            ("fn f()\n    -> A\n{\n", "A"),
+        ):
+            found = receivers.Signature(text, 3)
+            self.assertEqual((found.generics, found.takes, found.returns), ({}, {}, returns), text)
+
     def test_where_a_list_is_cut(self):
         for text, found in (
             ("a, b", ["a", "b"]),
+            ("a,b", ["a", "b"]),
             ("F: Fn(u8, u8) -> u8, b", ["F: Fn(u8, u8) -> u8", "b"]),
             ("a => <b>, c => d,", ["a => <b>", "c => d"]),
             ("[a, b], (c, d), {e, f}, G<h, i>,", ["[a, b]", "(c, d)", "{e, f}", "G<h, i>"]),

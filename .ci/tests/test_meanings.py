@@ -56,6 +56,41 @@ class Contracts(unittest.TestCase):
         return {one.name: [name for _, name, _ in one.clauses] for one, _ in found}
 
 
+class Citations(unittest.TestCase):
+    TEXTS = {
+        "crates/low/specs/Lib.antt": "pub mod Two\npub mod One\n",
+        "crates/low/specs/One.antt": "abbrev pub told : ℕ\ntold = 1\n",
+        "crates/low/specs/Two.antt": "-- Twos.\n-- More.\nuse Rattle.low.specs.One.{told}\n\n-- it is more\nabbrev pub more : ℕ\n"
+        "more = told.x.y\n",
+        "crates/low/specs/Three.antt": "use Rattle.low.specs.One as one\nuse Rattle.low.specs.Two.{more as other}\n"
+        "abbrev pub most : ℕ\nmost = one.told + other\n-- more, two.more, told\n",
+        "crates/low/src/a.rt": "ghost use Rattle.low.specs.One.{told};\n\n/// It keeps.\n#[inline]\npub fn f()\n"
+        "    ensures kept { told.x.y }\n    ensures { told told }\n    requires no { one.told, more }\n{}\n",
+    }
+
+    def test_who_cites_a_definition(self):
+        """By the imports of the file, whatever follows the name behind a point; comments cite nothing."""
+        crates = clauses.Crates(self.TEXTS, ["low"])
+        cited = {one.name: sorted((by.name, clause or "") for by, clause in one.cited) for one in crates.definitions()}
+        self.assertEqual(
+            cited, {"told": [("f", ""), ("f", "kept"), ("more", ""), ("most", "")], "more": [("most", "")], "most": []}
+        )
+
+    def test_files_of_definitions_are_in_the_order_of_their_list(self):
+        found = [*clauses.definitions_of(self.TEXTS, "low")]
+        self.assertEqual(
+            [(file, head) for file, head, _, _ in found], [("Two", "Twos. More."), ("One", ""), ("Three", "")]
+        )
+        more = found[0][2][0]
+        self.assertEqual((more.name, more.type, more.says), ("more", "ℕ", "it is more"))
+        ((function, _),) = clauses.functions_of(self.TEXTS, "low")
+        self.assertEqual(
+            (function.name, function.owner, function.is_public, function.says), ("f", "a", True, "It keeps.")
+        )
+        told = [("ensures", "kept", "told.x.y"), ("ensures", None, "told told"), ("requires", "no", "one.told, more")]
+        self.assertEqual(function.clauses, told)
+
+
 class Files(unittest.TestCase):
     TEXTS = {
         "crates/low/specs/State.antt": "-- A state.\nabbrev pub State : Type 0\n",
