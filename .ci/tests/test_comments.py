@@ -123,6 +123,35 @@ class Unproved(unittest.TestCase):
             with self.subTest(said):
                 self.assertEqual({at.split(":")[0] for at, _ in self.faults(said)}, set(self.CODE))
 
+    def test_where_a_name_has_to_be(self):
+        """In code of any kind, in a file that isn't a document, a mutant or an edit, or as the name of a file or a folder."""
+        texts = {
+            "crates/low_one/src/sum_file.rt": "fn of_code() {}\n    // of_rattle\n",
+            "crates/low_one/must-fail/one_edit.edit": "old: of_edit\n",
+            "a_folder/a_page.md": "of_page\n",
+            "a_folder/b.mutants": "old: of_mutant\n",
+            "a_folder/c.txt": "of_text\n",
+            "a_folder/d.png": "\0 of_picture\n",
+            ".ci/tests/test_made_up.py": "of_test = 1\n",
+            "e.py": "of_python = 1  # of_comment\n",
+        }
+        there = [
+            "low_one",
+            "sum_file",
+            "of_code",
+            "one_edit",
+            "a_folder",
+            "a_page",
+            "of_text",
+            "test_made_up",
+            "of_python",
+        ]
+        nowhere = ["of_rattle", "of_edit", "of_page", "of_mutant", "of_picture", "of_test", "of_comment"]
+        said = f"# {' '.join([*there, 'io_uring_disabled', 'def of_example', *nowhere])} a-of_part b.of_part Of_word\n"
+        found = [*faults_of_unproved({**texts, "f.py": f"\n{said}"})]
+        wanted = [f"f.py:2: {name} is nowhere but in comments" for name in (*nowhere, "of_part")]
+        self.assertEqual(sorted(found), sorted([*wanted, "e.py:1: of_comment is nowhere but in comments"]))
+
     def test_a_name_in_a_string_is_no_comment(self):
         self.assertEqual(self.faults("As old_name has it."), [])
 

@@ -135,6 +135,24 @@ class OverLibraries(MadeUp):
         self.write("fails", "")
         self.assertEqual(self.run_with("high", "low", status=1), ["high: not proved", "low: not proved"])
 
+    def test_ten_functions_are_named(self):
+        self.patch("proved", lambda crate, flags: (True, 50.0, [(float(at), f"high::f{at}") for at in range(1, 13)]))
+        lines = self.run_with("high")
+        self.assertEqual([line.split()[-1] for line in lines[1:]], [f"high::f{at}" for at in range(12, 2, -1)])
+        self.assertEqual(lines[:2], ["high: 50 s, 12 functions", "    12.0 s  24.0 %  high::f12"])
+
+    def test_seconds_are_those_of_a_process_and_its_children(self):
+        subprocess.run(["bash", "-c", "for ((i = 0; i < 50000; i++)); do :; done"], check=True)
+        before, found, after = sum(os.times()[:4]), slowest.used(os.getpid()), sum(os.times()[:4])
+        self.assertTrue(before - 0.1 <= found <= after + 0.1, (before, found, after))
+
+    def test_a_function_alone_of_a_crate_that_is_not_proved(self):
+        self.assertIn("high: rt check has kept nothing in out/", self.said("--alone", "high", "high::at", status=2))
+        self.write("crates/high/out/incremental/one/high-proofs.at.Answers", "")
+        self.write("fails", "")
+        self.assertEqual(self.run_with("--alone", "high", "high::at", status=1), ["high: not proved"])
+        self.assertEqual(sorted(os.listdir(f"{self.top}/crates/high/out")), ["incremental", "rlib"])
+
     def test_other_words_are_refused(self):
         for words in ([], ["no-such-crate"], ["--most", "x", "high"], ["--alone", "high"]):
             self.assertIn(".ci/slowest [--tests]", self.said(*words, status=2))

@@ -138,6 +138,8 @@ LINES = (
     ("boxed.copy(alloc);", "Node"),
     ("place.text.copy(alloc);", None),
     ("make().copy(alloc);", "Text"),
+    ("make::<u8>().copy(alloc);", "Text"),
+    ("Node::new::<u8>(alloc).copy(alloc);", "Node"),
     ("unheard(1).copy(alloc);", None),
     ("Node::new(alloc).copy(alloc);", "Node"),
     ("low::tree::Node::new(alloc).copy(alloc);", "Node"),

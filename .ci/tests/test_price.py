@@ -6,7 +6,9 @@ import shutil
 import subprocess
 import sys
 import tempfile
+import time
 import unittest
+from unittest import mock
 
 from scripts import MadeUp, load
 
@@ -110,6 +112,61 @@ class Price(MadeUp):
         with contextlib.redirect_stderr(io.StringIO()):
             *_, parts = price.watched(waits, self.top, dict(os.environ))
         self.assertEqual([(part, used) for part, _, _, used in parts], [(("a", "proof"), 5.0)])
+
+    def test_what_is_run_and_what_is_said(self):
+        """The clone of what is committed, with one job unless parts shall run in parallel."""
+        ran = []
+
+        def watched(command, folder, environment):
+            self.assertTrue(os.path.isfile(f"{folder.split('/clone')[0]}/clone/committed"))
+            ran.append((command, folder.split("/clone")[1], environment.get("RT_JOBS")))
+            return 3, ["first", "2 passed, 1 failed"], 120.0, [(("low", "proof"), 0.0, 5.0, 4.0)]
+
+        git = ["git", "-C", f"{self.top}/origin", "-c", "user.name=A", "-c", "user.email=a@example.org"]
+        os.makedirs(f"{self.top}/origin/.ci")
+        for name in ("committed", ".ci/price"):
+            self.write(f"origin/{name}", "")
+        for words in (["init", "--quiet"], ["add", "-A"], ["commit", "--quiet", "--message", "a"]):
+            subprocess.run([*git, *words], check=True)
+        self.write("origin/other", "")
+        self.patch("__file__", f"{self.top}/origin/.ci/price")
+        self.patch("watched", watched)
+        self.patch("resource", mock.Mock(getrusage=lambda of: mock.Mock(ru_utime=150.0, ru_stime=30.0)))
+        jobs = os.environ.get("RT_JOBS")
+        for words, command, folder, number in (
+            ([], [".ci/run"], "", "1"),
+            (["--side"], [".ci/run"], "", jobs),
+            (["--first-run"], ["rt", "run"], "/crates/cgreplay", jobs),
+        ):
+            lines = self.run_with(*words, status=3)
+            self.assertEqual(ran.pop(), (command, folder, number), words)
+            self.assertEqual(lines[0].split(",")[0], "Processor seconds of each part")
+            self.assertEqual(lines[1:5], ["", *price.shown({"low": {"proof": (4.0, 5.0, 1)}}).split("\n")[:3]])
+            count = len(os.sched_getaffinity(0))
+            told = [f"{' '.join(command)}: 2 passed, 1 failed", f"2 minutes, 3 processor minutes, {count} processors"]
+            self.assertEqual(lines[-2:], told)
+
+    def test_what_is_known_of_a_process_of_the_prover(self):
+        prover = os.path.join(self.top, "rattle")
+        os.symlink(sys.executable, prover)
+        ran = subprocess.Popen([prover, "-c", "input()", "a word"], cwd=self.top, stdin=subprocess.PIPE)
+        try:
+            end = time.monotonic() + 300
+            # a child may have its words only after Popen returned
+            while "a word" not in price.processes().get(ran.pid, [[]] * 4)[3] and time.monotonic() < end:
+                time.sleep(0.01)
+            parent, used, start, words, folder = price.processes()[ran.pid]
+            with open(f"/proc/{ran.pid}/stat", encoding="utf-8") as it:
+                fields = it.read().rpartition(")")[2].split()
+        finally:
+            ran.communicate(b"\n")
+        self.assertEqual(
+            (parent, words, folder), (os.getpid(), [prover, "-c", "input()", "a word", ""], os.path.realpath(self.top))
+        )
+        # the 22nd field of proc(5)
+        self.assertEqual(start, int(fields[22 - 3]))
+        self.assertTrue(0 <= used < 60)
+        self.assertNotIn(os.getpid(), price.processes(), "this is no prover")
 
     def test_other_words_are_refused(self):
         for words in (["--slow"], ["--side", "--side"]):
