@@ -11,7 +11,7 @@ from lookup.held import faults_of_held  # noqa: E402
 TEXTS = {
     "crates/low/specs/Sum.antt": "-- Sums.\nuse Rattle.std.specs.Prelude.{Few}\n\n-- it adds\nabbrev pub Adds : Type 0\nAdds = Few\n",
     "crates/low/src/sum.rt": "impl<A> Sum<A> {\n    /// Not Total.\n    pub fn add(self)\n        ensures kept { Adds }\n    {\n"
-    "        body\n    }\n\n    pub fn take(self) {}\n}\n",
+    "        body\n    }\n\n    pub fn take(self) {}\n\n    fn own(self) {}\n}\n",
     "crates/low_laws/src/sums.rt": "pub fn sums_add_up()\n    ensures { Adds }\n{}\n",
 }
 
@@ -25,6 +25,7 @@ class Held(unittest.TestCase):
         for line in (
             "`Sum.Adds` in `Sum.antt`, by `Sum::add` (`kept`) and `sums::sums_add_up`",
             "`Sum::add` (`low`), `Sum::Variant`, `Other::add`, `Other.add`",
+            "`Sum::own`, which is private",
         ):
             with self.subTest(line):
                 self.assertEqual(self.faults_of(line), [])

@@ -114,6 +114,13 @@ class Recipes(MadeUp):
             said = self.second("sleep 3 > /dev/null 2>&1 &")
         self.assertIn("left behind", said)
 
+    def test_all_that_is_wrong_is_told(self):
+        self.patch("left_by", lambda folder: (["7"], []))
+        with mock.patch.object(recipes.time, "monotonic", side_effect=[0, 1, 99, 99, 99, 99]):
+            said = self.second("false")
+        self.assertIn("  false: status 1", said)
+        self.assertIn("  left behind: (['7'], [])", said)
+
     def test_what_a_machine_lacks_is_named(self):
         self.patch("lacks", lambda packages: "no such package" if "more" in packages else "")
         said = self.said()

@@ -168,6 +168,7 @@ class Malformed(Made):
             (b"-- undo\n", b"-- undo\n-- undo\n", 16, "the line has no mark that is known here"),
             (b"> undo\n", b"> undo\n< 1 ok\n", 17, "there is no command above the answer"),
             (b"> undo\n", b"> undo", 16, "the line has no line feed"),
+            (b"> undo\n", b"> undo\n ", 17, "the line has no line feed"),
             (b"== a\n", b"== a\n\\ no line feed\n", 5, "there is no line above whose line feed can be missing"),
             (b"> # mode D\n", b">\n\\ no line feed\n", 6, "there is no line above whose line feed can be missing"),
             (
