@@ -6,6 +6,8 @@ import runpy
 import sys
 import time
 
+from makhloeum import Hierarchy
+
 SOURCE = pathlib.Path(__file__).parents[1] / "figures.py"
 SMALL = {"ROUNDS, CALLS, PIPED": "3, 8, 4", "PROCESSES": "2050"}
 # It notes each line, and answers a `cat` and an `undo` with two lines.
@@ -45,8 +47,28 @@ IN_MEMORY = ["cats", "numbers (current)", "forks with their undos"]
 SWEEPS = ["read for each", "current for each", "one read_many"]
 
 
+def counted(monkeypatch, *names):
+    """How often these methods are called."""
+    calls = dict.fromkeys(names, 0)
+
+    def counting(name, method):
+        def call(*words, **more):
+            calls[name] += 1
+            return method(*words, **more)
+
+        return call
+
+    for name in names:
+        monkeypatch.setattr(Hierarchy, name, counting(name, getattr(Hierarchy, name)))
+    return calls
+
+
 def test_the_best_of_some_rounds_counts(monkeypatch, tmp_path, capsys):
+    calls = counted(monkeypatch, "read", "current", "read_many", "fork", "undo", "peak")
     lines, clocks = run(monkeypatch, tmp_path, capsys)
+    # three rounds of eight calls, and sweeps over 1,024 groups, one of which is the first look at the numbers
+    sweeps = {"read": 3 * 1024, "current": 4 * 1024, "read_many": 4, "fork": 2050, "undo": 0, "peak": 0}
+    assert calls == {name: sweeps[name] + 24 * (name not in ("read_many", "peak")) for name in sweeps}
     wanted = [f"Python, {what:50} {4:11} a second" for what in IN_MEMORY]  # 8 calls in 2 seconds
     wanted += [f"Python, a sweep over 1,024 groups, {what:23} {2000:11}.000 ms" for what in SWEEPS]
     assert [re.sub(" +", " ", line) for line in lines] == [re.sub(" +", " ", line) for line in wanted]

@@ -129,6 +129,13 @@ def test_a_worker_that_nobody_asks_any_more_removes_what_it_made(monkeypatch, fa
     assert ended == ["sequence", "/own"] and worker._groups is None
 
 
+def test_a_value_is_sent_whole():
+    """A socket may take a part of what it is given."""
+    sent = []
+    _Lines(types.SimpleNamespace(sendall=sent.append)).put([1, "é\n", None])
+    assert sent == [b'[1, "\\u00e9\\n", null]\n']
+
+
 def test_an_answer_that_comes_in_parts():
     ours, theirs = socket.socketpair()
     theirs.sendall(b'[1, "o')
