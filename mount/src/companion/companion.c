@@ -40,10 +40,6 @@ static int open_file(int root, const char *path)
 {
 	char group[PATH_MAX_SAID + 1];
 	const char *name = strrchr(path, '/');
-	if (name - path > PATH_MAX_SAID) {
-		errno = ENAMETOOLONG;
-		return -1;
-	}
 	snprintf(group, sizeof group, "%.*s", (int)(name - path), path);
 	cleanup_fd int directory = beneath_open(root, name == path ? "/" : group, O_PATH | O_DIRECTORY);
 	return directory < 0 ? -1 : beneath_open(directory, name, O_PATH | O_NOFOLLOW);

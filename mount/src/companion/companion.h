@@ -14,8 +14,8 @@
 #include <stdbool.h>
 #include <sys/types.h>
 
-/* The mark: a number of free files that no file system has; and a time of modification, before 1970, whose setting the server
-   leaves out. The companion sets it so that inotify reports a change (companion.c). */
+/* The mark: a time of modification, before 1970, whose setting the server leaves out. The companion sets it so that inotify reports a
+   change (companion.c). */
 enum { MARK = 0x6d6b6872 };
 
 struct companion {

@@ -130,12 +130,8 @@ static bool answer_statfs(int listener, const struct seccomp_notif *call)
 	bool is_text = mount_root_has_file(file, ".makhloeum.");
 	if (file < 0 || (is_text ? statfs(".", &st) : fstatfs(file, &st)))
 		return answer_no_memory(listener, call);
-	if (!is_text) {
-		/* The mount's own magic number is that of FUSE, and its f_ffree has a mark
-		   (server/operations.c). */
-		st.f_type = CGROUP2_SUPER_MAGIC;
-		st.f_ffree = 0;
-	}
+	if (!is_text)
+		st.f_type = CGROUP2_SUPER_MAGIC; /* the mount's own number is that of FUSE */
 	respond(listener, call, write_answer(listener, call, call->data.args[1], &st, sizeof st) ? 0 : EFAULT, 0);
 	return true;
 }

@@ -20,8 +20,6 @@ void tasks_begin_process(pid_t process)
 void tasks_add(pid_t thread, pid_t process)
 {
 	WANTS_LOCK();
-	if (!is_pid(thread) || !is_pid(process))
-		return;
 	struct process *t = process_at(thread), *first = process_at(process);
 	/* The new thread comes last in the ring: before the process, after the newest. */
 	pid_t last = first->thread_before ? first->thread_before : process;
@@ -35,9 +33,7 @@ void tasks_add(pid_t thread, pid_t process)
 void tasks_drop(pid_t thread)
 {
 	WANTS_LOCK();
-	struct process *t = is_pid(thread) ? process_at(thread) : NULL;
-	if (!t || !t->next_thread)
-		return;
+	struct process *t = process_at(thread);
 	/* `thread_of` stays: it says that the number is a thread's, and an undo may bring that back. */
 	process_at(t->thread_before)->next_thread = t->next_thread;
 	process_at(t->next_thread)->thread_before = t->thread_before;

@@ -146,8 +146,6 @@ void zombies_add_gone(pid_t pid)
    as long as it lives. */
 static bool is_gone(const struct zombie *z)
 {
-	if (z->gone)
-		return true;
 	if (z->fd >= 0)
 		return was_waited_for(z->fd);
 	return kill(z->pid, 0) && errno == ESRCH;

@@ -17,7 +17,7 @@
 enum { WANTED = 1, STOPPED = 2, ORDERED = 4 };
 
 static size_t freezing; /* groups in which 1 was written */
-static size_t wanted; /* processes that have to stop */
+static bool has_frozen; /* 1 was written once: until then no process has to stop */
 /* An eventfd; -1: a mount without a run, where no process stops. */
 static int supervisor = -1;
 
@@ -116,8 +116,6 @@ static void add_order(pid_t pid)
 static void set_wanted(pid_t pid, bool stops)
 {
 	struct process *p = process_at(pid);
-	wanted -= !!(p->freezing & WANTED);
-	wanted += stops;
 	if (stops)
 		p->freezing |= WANTED;
 	else
@@ -177,8 +175,7 @@ static int note(pid_t pid, const char *group)
    listed, which may find no memory, and then they are ordered, which cannot fail. */
 static int order_all(const char *top)
 {
-	/* If no group freezes and no process was to stop, nothing can change. */
-	if (supervisor < 0 || (!freezing && !wanted))
+	if (supervisor < 0 || !has_frozen)
 		return 0;
 	changes_count = 0;
 	int fault = members_each(top, false, note);
@@ -206,7 +203,7 @@ void freezer_catch_up(void)
 void freezer_moved(pid_t pid, const char *group)
 {
 	WANTS_LOCK();
-	if (supervisor < 0 || (!freezing && !wanted))
+	if (supervisor < 0)
 		return;
 	want(pid, is_to_freeze(group));
 	wake();
@@ -218,6 +215,7 @@ static void set(struct group_state *r, bool freezes)
 {
 	freezing += freezes;
 	freezing -= r->freezes;
+	has_frozen |= freezes;
 	r->freezes = freezes;
 }
 
@@ -252,13 +250,12 @@ bool freezer_born(pid_t pid, const char *group)
 	if (!is_pid(pid))
 		return false;
 	bool stops = is_to_freeze(group);
-	/* It takes away what an earlier process of this number had. No order follows: the supervisor
-	   gets the answer with that of its question. */
-	set_wanted(pid, false);
+	/* No order follows: the supervisor gets the answer with that of its question. */
 	set_wanted(pid, stops);
 	return stops;
 }
 
+/* The next process of this number has not stopped. */
 void freezer_gone(pid_t pid)
 {
 	WANTS_LOCK();

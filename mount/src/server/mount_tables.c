@@ -164,6 +164,17 @@ static void put_info(FILE *out, const char *line, const char *root)
 	fprintf(out, "%.*s%s%s - cgroup2 cgroup2 rw\n", (int)before, line, seen, line + before + strlen(group));
 }
 
+/* A line of mounts. Its options are those of the mount, and then those of FUSE, of which user_id is the first. */
+static void put_entry(FILE *out, const char *line, const char *place)
+{
+	char options[LONG] = "";
+	(void)take_word(line, 3, options, sizeof options); /* it is there: the words before it were found */
+	char *of_fuse = strstr(options, ",user_id=");
+	if (of_fuse)
+		*of_fuse = 0;
+	fprintf(out, "cgroup2 %s cgroup2 %s 0 0\n", place, options);
+}
+
 /* Which words of a line are the place, the type and the source; those of mountinfo are counted from its dash on. */
 static const struct form {
 	const char *what;
@@ -247,7 +258,7 @@ static void put_mount(FILE *out, char *line, const struct form *f, const char *r
 	} else if (is_stats)
 		fprintf(out, "device cgroup2 mounted on %s with fstype cgroup2\n", l.place);
 	else
-		fprintf(out, "cgroup2 %s cgroup2 rw,nosuid,nodev,noexec,relatime 0 0\n", l.place);
+		put_entry(out, line, l.place);
 }
 
 /* The whole of the kernel's table, ended by a zero byte. 0 or -errno */

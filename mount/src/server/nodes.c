@@ -96,16 +96,11 @@ static int find_group(const char *path, struct node *out)
 /* It may make the state of the group above, which was looked up by nobody. */
 int nodes_find_above(const struct node *node, struct node *out)
 {
-	char path[PATH_MAX_SAID] = "/";
+	char path[PATH_MAX_SAID];
 	WANTS_LOCK();
-	*out = (struct node){ .control = CONTROL_ITSELF };
-	if (!node->group && !nodes_is_directory(node))
-		return 0;
-	if (node->group)
-		snprintf(path, sizeof path, "%s", node->group->path);
-	if (!node->file)
-		go_up(path);
-	out->group = group_state_make(path);
+	snprintf(path, sizeof path, "%s", node->group ? node->group->path : "/");
+	go_up(path);
+	*out = (struct node){ .group = group_state_make(path) };
 	return out->group ? 0 : -ENOMEM;
 }
 

@@ -16,7 +16,7 @@ struct node {
 /* All require the engine's lock. 0; -ENOENT: the kernel has no such number from here. */
 int nodes_find(uint64_t number, struct node *out);
 uint64_t nodes_number(const struct node *node);
-/* The directory above; the root's is the root. 0 or -ENOMEM */
+/* The directory above a directory; the root's is the root. 0 or -ENOMEM */
 int nodes_find_above(const struct node *node, struct node *out);
 /* What a name in a directory is of: 0 or -errno. The kernel finds what a file handle is of as "." or ".." of its number. */
 int nodes_find_below(const struct node *directory, const char *name, struct node *out);

@@ -61,14 +61,11 @@ void open_files_reply(fuse_req_t req, int fault, struct open_file *o, struct fus
 {
 	fi->fh = (uintptr_t)o;
 	/* The reply is sent without the lock. Once it is sent, the file belongs to the kernel, which
-	   may close it in another thread. */
-	if (fault) {
+	   may close it in another thread. The kernel takes each reply, also if its caller was killed, until the mount ends. */
+	if (fault)
 		fuse_reply_err(req, -fault);
-	} else if (fuse_reply_open(req, fi) == -ENOENT) { /* the caller was interrupted, and the kernel closes nothing */
-		engine_lock();
-		open_files_free(o);
-		engine_unlock();
-	}
+	else
+		fuse_reply_open(req, fi);
 }
 
 bool open_files_is_gone(const struct open_file *o)
@@ -162,7 +159,7 @@ unsigned open_files_poll(struct open_file *o, struct fuse_pollhandle *waiter)
 			fuse_pollhandle_destroy(o->waiting);
 		o->waiting = waiter;
 	}
-	return POLLIN | POLLOUT | POLLRDNORM | POLLWRNORM | (o->changed || !o->of ? POLLERR | POLLPRI : 0);
+	return POLLIN | POLLOUT | POLLRDNORM | POLLWRNORM | (o->changed ? POLLERR | POLLPRI : 0);
 }
 
 /* Every open file of it, whoever has it open. */

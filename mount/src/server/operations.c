@@ -1,7 +1,6 @@
 /* The table for libfuse, and the operations that a cgroup file system refuses. */
 #include "server/operations.h"
 #include "common/bounds.h"
-#include "companion/companion.h"
 #include "server/attributes.h"
 #include <errno.h>
 #include <sys/statvfs.h>
@@ -13,13 +12,9 @@ static void start(void *unused, struct fuse_conn_info *connection)
 	connection->want |= connection->capable & FUSE_CAP_EXPORT_SUPPORT; /* look-ups of . and .. (nodes.h) */
 }
 
-/* f_ffree has the mark: the number of free files means nothing in this file system. */
 static void statfs_group(fuse_req_t req, fuse_ino_t number)
 {
-	struct statvfs st = { .f_bsize = 4096,
-		.f_frsize = 4096,
-		.f_namemax = NAME_BYTES,
-		.f_ffree = look.marked ? MARK : 0 };
+	struct statvfs st = { .f_bsize = 4096, .f_frsize = 4096, .f_namemax = NAME_BYTES };
 	(void)number;
 	fuse_reply_statfs(req, &st);
 }

@@ -10,7 +10,7 @@
 /* The options of the mount. */
 struct look {
 	bool history; /* the control directory is listed, and has the files of a history */
-	bool marked; /* statfs carries a mark by which the supervisor knows this file system */
+	bool marked; /* the mount is of a run */
 	bool no_threads; /* a thread of a run has no number in the hierarchy */
 	/* The owner of what no program has made: the root, its files and the control directory. */
 	uid_t uid;

@@ -136,16 +136,13 @@ void tree_setattr(fuse_req_t req, fuse_ino_t number, struct stat *st, int fields
 
 /* ---------------------------------------------------------------- look-ups */
 
-/* The kernel forgets the look-up only if it has received the answer. */
+/* The kernel takes each answer, and forgets the look-up later (open_files_reply). */
 static void reply_entry(fuse_req_t req, int fault, const struct fuse_entry_param *entry)
 {
-	if (fault) {
+	if (fault)
 		fuse_reply_err(req, -fault);
-	} else if (fuse_reply_entry(req, entry) == -ENOENT) {
-		engine_lock();
-		nodes_forget(entry->ino, 1);
-		engine_unlock();
-	}
+	else
+		fuse_reply_entry(req, entry);
 }
 
 static int look_up(uint64_t parent, const char *name, struct fuse_entry_param *entry)
@@ -211,13 +208,11 @@ static int path_in(uint64_t parent, const char *name, struct node *directory, ch
 /* All memory is taken before the engine makes the group. */
 static int make_group(const char *path, const struct inode_fields *maker, struct node *out)
 {
-	/* It may be there although the engine refuses the mkdir, with EEXIST: then its state stays. */
-	bool was_there = group_state_find(path) != NULL;
 	*out = (struct node){ .group = group_state_make(path) };
 	if (!out->group)
 		return -ENOMEM;
 	int fault = engine_line("mkdir %s", path);
-	if (fault && !was_there)
+	if (fault && fault != -EEXIST)
 		group_state_lose(path);
 	if (fault == 0)
 		owner_begin(out->group, maker);

@@ -39,13 +39,8 @@ static void read_text(struct watched *w, char out[TEXT_MAX])
 {
 	size_t size = 0;
 	const char *text = NULL;
-	if (texts_read(w->of->path, w->file, false, &text, &size))
-		size = 0;
-	if (size >= TEXT_MAX)
-		size = TEXT_MAX - 1;
-	if (size)
-		memcpy(out, text, size);
-	out[size] = 0;
+	bool found = texts_read(w->of->path, w->file, false, &text, &size) == 0;
+	snprintf(out, TEXT_MAX, "%.*s", found ? (int)size : 0, found ? text : "");
 }
 
 /* A file that nobody ever looked up can neither be polled nor watched, so it is not compared. */

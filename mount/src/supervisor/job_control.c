@@ -58,10 +58,10 @@ static bool is_group_of_run(pid_t group)
 }
 
 /* By the same signal, so that the shell says why. Everything else of the run waits meanwhile: no
-   event of the program is handled until SIGCONT. */
+   event of the program is handled until SIGCONT. Otherwise the signal is blocked, so its action may stay. */
 static void stop_by(int signal)
 {
-	static const struct signal_action stops = { .handler = SIG_DFL }, ignored = { .handler = SIG_IGN };
+	static const struct signal_action stops = { .handler = SIG_DFL };
 	sigset_t one, before;
 	/* none of these can fail: the signals exist, and SIGSTOP has its action already */
 	sigemptyset(&one);
@@ -70,7 +70,6 @@ static void stop_by(int signal)
 	sigprocmask(SIG_UNBLOCK, &one, &before);
 	kill(getpid(), signal); /* the only thread stops in this call, and leaves it once the shell continues it */
 	sigprocmask(SIG_SETMASK, &before, NULL);
-	(void)signal_action(signal, &ignored, NULL);
 }
 
 /* A shell gives the terminal back to the group of its job. A program that is a shell itself had

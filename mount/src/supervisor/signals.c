@@ -26,7 +26,6 @@ static bool is_for_program(int signal)
 	case SIGBUS:
 	case SIGFPE:
 	case SIGSEGV:
-	case SIGSYS:
 	case SIGKILL:
 	case SIGSTOP:
 	case SIGPIPE:
@@ -53,9 +52,7 @@ int signals_receive(void)
 		if (is_for_program(signal))
 			sigaddset(&held, signal);
 	sigprocmask(SIG_BLOCK, &held, NULL);
-	/* those that the caller had blocked and got: the next call drops them */
-	if (sigpending(&waiting_already))
-		sigemptyset(&waiting_already);
+	sigpending(&waiting_already); /* those that the caller had blocked and got: the next call drops them */
 	/* A blocked signal is queued even if its action is to be ignored, so the descriptor receives
 	   those that are held. All others are dropped. */
 	own_processes_ignore_signals();

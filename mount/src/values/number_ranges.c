@@ -94,8 +94,6 @@ int number_ranges_read(const char *text, unsigned bits, struct number_ranges *ou
 {
 	int fault = 0;
 	memset(out, 0, sizeof *out);
-	if (bits > NUMBER_RANGES_MAX)
-		bits = NUMBER_RANGES_MAX;
 	/* Regions may have several commas and blanks between them, or none at all. */
 	for (;;) {
 		struct region r;

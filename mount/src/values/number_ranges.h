@@ -13,7 +13,7 @@ struct number_ranges {
 	unsigned char bits[NUMBER_RANGES_MAX / 8];
 };
 
-/* 0; -ERANGE for a number that is not below `bits`, -EINVAL if it is not a list. */
+/* 0; -ERANGE for a number that is not below `bits` (at most NUMBER_RANGES_MAX), -EINVAL if it is not a list. */
 int number_ranges_read(const char *text, unsigned bits, struct number_ranges *out);
 /* With a line feed; false if it does not fit. */
 bool number_ranges_write(const struct number_ranges *l, char *out, size_t size);

@@ -169,8 +169,10 @@ look; exec unshare -C sh -c 'grep -e " %s " -e " %s " /proc/self/mountinfo' | cu
         same("its table, seen %s" % (how + "from /a" if how else "from here"), got, [root, AT])
     other.kill()
     other.wait()
-    status, out, _ = shell("mount -t cgroup2 -o ro none %s; mkdir %s/x" % (where, where), "unshare", "-m")
-    step("read-only", status != 0, out)
+    script = "mount -t cgroup2 -o ro none %s; grep ' %s ' /proc/self/mounts; mkdir %s/x" % ((where,) * 3)
+    status, out, _ = shell(script, "unshare", "-m")
+    wanted = "cgroup2 %s cgroup2 ro,nosuid,nodev,noexec,relatime 0 0\n" % where
+    same("read-only", (status != 0, out), (True, wanted))
     for kind in ("cgroup2", "cgroup", "tmpfs"):
         got = without_effect(lambda: error_of(mount, where, kind))
         same("of %s with a capability that is not in effect" % kind, got, "EPERM")
@@ -344,11 +346,10 @@ def others():
         libc.mount(b"none", at.encode(), b"tmpfs", 0, ctypes.c_void_p(memory + page - before))
         same("options %d bytes before the end of memory" % before, os.stat(at).st_mode & 0o777, 0o750)
         libc.umount2(at.encode(), DETACH)
-    same(
-        "an old mark in the flags",
-        (libc.mount(b"x", at.encode(), b"tmpfs", 0xC0ED0000, None), libc.umount2(at.encode(), DETACH)),
-        (0, 0),
-    )
+    for source, kind, flags in ((b"x", b"tmpfs", 0), ((home + "/low").encode(), None, BIND)):
+        got = libc.mount(source, at.encode(), kind, 0xC0ED0000 | flags, None), os.listdir(at)
+        same("an old mark in the flags, and %#x" % flags, got, (0, ["here"] if flags else []))
+        libc.umount2(at.encode(), DETACH)
     for kind, data in (
         (b"fuse", b"fd=%d,rootmode=40000,user_id=0,group_id=0"),
         (b"fuse", b"rootmode=40000,user_id=0,group_id=0,fd=%d"),
@@ -880,6 +881,38 @@ def configure(fd, command, key=None, value=None, number=0):
     return called(FSCONFIG, fd, command, key, value, number)
 
 
+KNOWN = b"""ro rw sync async dirsync lazytime nolazytime mand nomand nsdelegate favordynmods memory_localevents memory_recursiveprot
+memory_hugetlb_accounting pids_localevents""".split()
+
+
+def attributes(path):
+    """Mounts with the attributes that fsmount takes: what the tables of mounts say of them."""
+    times = {"noatime", "relatime", "nodiratime"}
+    for attribute, some, others in (
+        (0, {"rw", "relatime"}, {"ro", "nodiratime", "nosymfollow"}),
+        (0x1, {"ro", "relatime"}, {"rw"}),
+        (0x2, {"rw", "nosuid"}, {"ro"}),
+        (0x4, {"rw", "nodev"}, {"ro"}),
+        (0x8, {"rw", "noexec"}, {"ro"}),
+        (0x10, {"noatime"}, times - {"noatime"}),
+        (0x20, {"rw"}, times),
+        (0x80, {"nodiratime", "relatime"}, {"noatime"}),
+        (0x80 | 0x20, {"nodiratime"}, {"noatime", "relatime"}),
+        (0x200000, {"nosymfollow", "relatime"}, {"ro"}),
+    ):
+        fd = called(FSOPEN, b"cgroup2", 0)
+        configure(fd, CREATE)
+        top = called(FSMOUNT, fd, 0, attribute)
+        same("attribute %#x: moved" % attribute, called(MOVE_MOUNT, top, b"", -100, path.encode(), 4), 0)
+        for name, place, column in (("mountinfo", 4, 5), ("mounts", 1, 3)):
+            lines = [x.split() for x in open("/proc/self/" + name)]
+            has = set(next(x[column] for x in lines if x[place] == path).split(","))
+            same("attribute %#x in %s" % (attribute, name), (some - has, others & has), (set(), set()))
+        libc.umount2(path.encode(), DETACH)
+        os.close(top)
+        os.close(fd)
+
+
 def configured(at=AT):
     """A mount of cgroup2 that is made by the new calls, as libmount and LXC do it."""
     place, path = AT if at == AT else os.path.dirname(at), tempfile.mkdtemp()
@@ -891,26 +924,30 @@ def configured(at=AT):
         ("an empty name", "ENODEV", (b"", 0)),
     ):
         same("fsopen, %s" % name, called(FSOPEN, *words), wanted)
-    for flags in (0, 1):
+    for flags in (0, 1, 1 << 32):  # the kernel takes 32 bits
         fd = called(FSOPEN, b"cgroup2", flags)
-        same("fsopen, flags %d" % flags, fcntl.fcntl(fd, fcntl.F_GETFD), flags)
+        same("fsopen, flags %d" % flags, fcntl.fcntl(fd, fcntl.F_GETFD), flags & 1)
         os.close(fd)
     fd = called(FSOPEN, b"cgroup2", 1)
     got = [error_of(os.read, fd, 9), error_of(os.write, fd, b"x"), error_of(os.lseek, fd, 0, 0)]
     same("read, write and lseek", got, ["ENODATA", "EINVAL", "ESPIPE"])
+    same("writes of any size", {error_of(os.write, fd, bytes(size)) for size in range(1, 99)}, {"EINVAL"})
     same("not made yet", (called(FSMOUNT, fd, 0, 0), configure(fd, RECONFIGURE)), ("EINVAL", "EBUSY"))
     wrong = [called(FSMOUNT, fd, *words) for words in ((2, 0), (0, 1 << 30), (0, 0x100000), (0, 0x30), (0, 0x60))]
     same("wrong flags and attributes", wrong, ["EINVAL"] * 5)
     for words, wanted in (
         ((99,), "ENOTSUP"),
         ((CREATE, b"x"), "EINVAL"),
+        ((CREATE, None, b"x"), "EINVAL"),
         ((CREATE, None, None, 1), "EINVAL"),
+        ((RECONFIGURE, b"x"), "EINVAL"),
         ((SET_FLAG,), "EINVAL"),
         ((SET_FLAG, b"ro", b"x"), "EINVAL"),
         ((SET_FLAG, b"ro", None, 1), "EINVAL"),
         ((SET_FLAG, b"rw"), 0),
         # the machine's superuser would change its groups by these
-        *((((SET_FLAG, b"nsdelegate"), 0), ((SET_FLAG, b"memory_recursiveprot"), 0)) if at == AT else ()),
+        *(((SET_FLAG, name), 0) for name in (KNOWN if at == AT else ())),
+        *(((SET_STRING, name, b"1"), "EINVAL") for name in (KNOWN[9:] if at == AT else ())),
         ((SET_FLAG, b"nosuch"), "EINVAL"),
         ((SET_FLAG, b"source"), "EINVAL"),
         ((SET_FLAG, b"nodev"), "EINVAL"),
@@ -920,6 +957,8 @@ def configured(at=AT):
         ((SET_STRING, b"source"), "EINVAL"),
         ((SET_STRING, b"nsdelegate", b"1"), "EINVAL"),
         ((SET_STRING, b"rw", b"1"), 0),
+        ((SET_STRING, b"rw", b"1", 1), "EINVAL"),
+        ((SET_STRING, None, b"1"), "EINVAL"),
         ((SET_STRING, nowhere_to_read, b"x"), "EFAULT"),
         ((SET_STRING, b"source", nowhere_to_read), "EFAULT"),
         ((SET_BINARY, b"x", b"yy", 2), "EINVAL"),
@@ -935,8 +974,26 @@ def configured(at=AT):
     same("nor mounts", [called(FSMOUNT, n, 0, 0) for n in (0, 999)], ["EINVAL", "EBADF"])
     got = [configure(fd, CREATE), configure(fd, CREATE), configure(fd, SET_FLAG, b"rw"), configure(fd, RECONFIGURE)]
     same("made once", got, [0, "EBUSY", "EBUSY", "EBUSY"])
+    wrong = [called(FSMOUNT, fd, *words) for words in ((2, 0), (0, 1 << 30), (0, 0x100000), (0, 0x30), (0, 0x60))]
+    same("wrong flags and attributes of what is made", wrong, ["EINVAL"] * 5)
     got = [configure(fd, SET_BINARY, b"x", b"yy", size) for size in (2, 0, -1, (1 << 20) + 1)]
     same("the size of a value is checked before that", got, ["EBUSY", "EINVAL", "EINVAL", "EINVAL"])
+    for command, value, number, wanted in (
+        (SET_PATH, b"/", -100, "EBUSY"),
+        (SET_PATH, b"/", 0, "EBUSY"),
+        (SET_PATH, b"/", -1, "EINVAL"),
+        (SET_PATH, None, 0, "EINVAL"),
+        (SET_PATH_EMPTY, b"", -100, "EBUSY"),
+        (SET_PATH_EMPTY, b"", -2, "EINVAL"),
+        (SET_FD, None, 0, "EBUSY"),
+        (SET_FD, None, -1, "EINVAL"),
+        (SET_FD, b"x", 0, "EINVAL"),
+        (SET_FLAG, b"x", 0, "EINVAL"),
+        (SET_FLAG, None, 0, "EBUSY"),
+        (SET_STRING, b"x", 0, "EBUSY"),
+    ):
+        got = configure(fd, command, b"x", value, number)
+        same("command %d, %s, %d: checked before that" % (command, value, number), got, wanted)
     top = called(FSMOUNT, fd, 1, 0x2 | 0x10)  # MOUNT_ATTR_NOSUID, MOUNT_ATTR_NOATIME
     same("mounted, and closed at an exec", fcntl.fcntl(top, fcntl.F_GETFD), 1)
     step("its root by the descriptor", os.stat("cgroup.procs", dir_fd=top))
@@ -946,9 +1003,19 @@ def configured(at=AT):
         same("and a change is the machine's superuser's", configure(fd, RECONFIGURE), "EPERM")
         same("then all is over", (configure(fd, SET_FLAG, b"rw"), called(FSMOUNT, fd, 0, 0)), ("EBUSY", "EBUSY"))
     os.close(fd)
-    for to, flags, wanted in ((b"/nowhere", 4, "ENOENT"), (b"/etc/passwd", 4, "EINVAL"), (where, 1 << 12, "EINVAL")):
+    link = where + b".link"
+    os.symlink(where, link)
+    for to, flags, wanted in (
+        (b"/nowhere", 4, "ENOENT"),
+        (b"/etc/passwd", 4, "EINVAL"),
+        (where, 1 << 12, "EINVAL"),
+        (where, 4 | 1 << 12, "EINVAL"),
+        (where, 0, "ENOENT"),
+        (b"", 4, "ENOENT"),
+        (link, 4, "EINVAL"),
+    ):
         same("moved to %s, flags %d" % (to.decode(), flags), called(MOVE_MOUNT, top, b"", -100, to, flags), wanted)
-    same("moved", called(MOVE_MOUNT, top, b"", -100, where, 4), 0)
+    same("moved, by a link", called(MOVE_MOUNT, top, b"", -100, link, 4 | 0x10), 0)
     os.close(top)
     same("it is of the hierarchy", os.stat(path).st_ino == os.stat(place).st_ino, True)
     line = [x.split() for x in open("/proc/self/mountinfo") if " %s " % path in x]
@@ -962,16 +1029,27 @@ def configured(at=AT):
     same("it is mounted already", got, [0, "EBUSY", "EBUSY"])
     os.close(fd)
     fd = os.open(path, os.O_PATH)
-    picked = called(FSPICK, fd, b"", 8)
-    step("by its descriptor", type(picked) is not str and os.close(picked) is None, picked)
+    for to, flags in ((b"", 8), (where, 0), (where, 2 | 4), (link, 0)):
+        picked = called(FSPICK, fd, to, flags)
+        step("picked as %s, %d" % (to.decode(), flags), type(picked) is not str and os.close(picked) is None, picked)
     for to, flags, wanted in (
         (where, 16, "EINVAL"),
         (where + b"/cgroup.procs", 0, "EINVAL"),
+        ((path + at[len(place) :] + "/known").encode(), 0, "EINVAL"),
         (b"/nowhere", 0, "ENOENT"),
+        (b"", 0, "ENOENT"),
+        (link, 2, "EINVAL"),
     ):
-        same("fspick of %s, flags %d" % (to.decode(), flags), called(FSPICK, -100, to, flags), wanted)
+        same("fspick of %s, flags %d" % (to.decode(), flags), called(FSPICK, fd, to, flags), wanted)
+    os.unlink(link)
+    other = tempfile.mkdtemp()
+    same("what has its place is moved on", called(MOVE_MOUNT, fd, b"", -100, other.encode(), 4), 0)
+    there = [os.path.exists(place + "/cgroup.procs") for place in (path, other)]
+    same("and has left the former one", there, [False, True])
     os.close(fd)
-    libc.umount2(where, DETACH)
+    libc.umount2(other.encode(), DETACH)
+    os.rmdir(other)
+    attributes(path)
     fd = called(FSOPEN, b"cgroup2", 0)
     got = [configure(fd, CREATE_ALONE), configure(fd, CREATE), called(FSMOUNT, fd, 0, 0)]
     same("one that nobody else has", got, ["EBUSY", "EBUSY", "EINVAL"])

@@ -8,7 +8,7 @@ import sys
 import time
 
 sys.path.insert(0, os.path.dirname(os.path.dirname(os.path.realpath(__file__))))
-from support import PROGRAM, Beside, Mount, error_of, finish, line_of
+from support import PROGRAM, Beside, Mount, error_of, finish, libc, line_of
 from support import is_alive, own_of, same, status_within, step, until
 
 # What the first process of a run does. It says a line when it has handled a signal.
@@ -392,7 +392,84 @@ def pending():
     p.stdout.close()
 
 
-tests = (group, manager, every, alone, asynchronous, outside, often, merged, mounts, faults, deaf, timers, pending)
+def of_children():
+    """SIGCHLD is the supervisor's own, also if another process sends it."""
+    code = """
+signal.pthread_sigmask(signal.SIG_BLOCK, [signal.SIGCHLD, signal.SIGWINCH])
+say("ready")
+signal.sigwait([signal.SIGWINCH])
+say(repr(signal.SIGCHLD in signal.sigpending()))
+"""
+    run = Run(code)
+    same("it runs", run.line(), "ready\n")
+    for each in (signal.SIGCHLD, signal.SIGWINCH):  # of signals that are passed on together, the lowest comes first
+        os.kill(run.p.pid, each)
+    same("whether the program gets it", run.line(), "False\n")
+    same("SIGCHLD to makhloeum: the status", status_within(run.p), 0)
+    run.p.stdout.close()
+
+
+def kinds():
+    """One by kill and one by sigqueue are two signals, although the sender is the same."""
+    run = Run(ALL)
+    same("it runs", run.line(), "ready\n")
+    program = run.program()
+    calls = lambda: os.kill(run.p.pid, signal.SIGTERM), lambda: libc.sigqueue(program, signal.SIGTERM, None)
+    for call in (*calls, *calls[::-1]):
+        call()
+        same("each comes", run.line(), "15\n")
+    run.ends("kill and sigqueue", [(signal.SIGTERM, 4)])
+
+
+def replaced():
+    """Of a SIGCONT and a signal that stops, which wait together to be passed on, only the later one comes."""
+    run = Run(ALL)
+    same("it runs", run.line(), "ready\n")
+
+    def send(number):
+        """Returns once makhloeum has taken it."""
+        os.kill(run.p.pid, number)
+        shared = lambda: next(x for x in open("/proc/%d/status" % run.p.pid) if x.startswith("ShdPnd:")).split()[1]
+        until(lambda: not int(shared(), 16) & 1 << number - 1)
+
+    def got(first, then):
+        """Both wait, if they come soon after another one."""
+        send(signal.SIGHUP)
+        same("SIGHUP comes", run.line(), "1\n")
+        for each in (first, then, signal.SIGWINCH):
+            send(each)
+        return {int(line) for line in iter(run.line, "%d\n" % signal.SIGWINCH)}
+
+    for stop in (signal.SIGTSTP, signal.SIGTTIN, signal.SIGTTOU):
+        for first, then in ((stop, signal.SIGCONT), (signal.SIGCONT, stop)):
+            found = any(got(first, then) == {then} for _ in range(30))  # on a busy machine the first has gone before
+            step("%s before %s is replaced" % (first.name, then.name), found)
+    run.p.kill()
+    run.p.wait()
+    run.p.stdout.close()
+
+
+def far_apart():
+    """Two signals of one sender are two if more than five seconds are between them. The other tests are made meanwhile."""
+    runs = [Run(ALL) for _ in range(2)]
+    for run, pid in zip(runs, (lambda run: run.p.pid, Run.program)):
+        same("it runs", run.line(), "ready\n")
+        os.kill(pid(run), signal.SIGTERM)
+        same("the first comes", run.line(), "15\n")
+    end = time.monotonic() + 5.5
+    yield
+    time.sleep(max(0, end - time.monotonic()))
+    for run, pid in zip(runs, (Run.program, lambda run: run.p.pid)):
+        os.kill(pid(run), signal.SIGTERM)
+        same("and the second", run.line(), "15\n")
+        run.ends("far apart", [(signal.SIGTERM, 2)])
+
+
+tests = [group, manager, every, alone, asynchronous, outside, often, merged, mounts, faults, deaf, timers, pending]
+tests += [of_children, kinds, replaced]
+lasting = far_apart() if "far_apart" in sys.argv[1:] or not sys.argv[1:] else iter(())
+next(lasting, None)
 for test in [t for t in tests if t.__name__ in sys.argv[1:] or not sys.argv[1:]]:
     test()
+next(lasting, None)
 finish()

@@ -150,12 +150,13 @@ def second():
     t = Terminal("a handler of a second process")
     open(os.path.join(t.home, "program.py"), "w").write(HANDLES % "os.getpid()")
     t.tell(RUN + "sh -c '%s program.py; exit 8'" % sys.executable, "ready\r\n", "it runs")
-    t.type("\x1a")
-    t.waits_for("it restores the terminal\r\n", "its handler runs first")
-    t.stopped("Stopped ", "a second process")
-    t.tell("fg", "it goes on\r\n", "fg continues it")
-    t.type("hello\n")
-    t.waits_for("got hello continued 1\r\n", "it has the terminal again")
+    for times in (1, 2):
+        t.type("\x1a")
+        t.waits_for("it restores the terminal\r\n", "its handler runs first")
+        t.stopped("Stopped ", "a second process, time %d" % times)
+        t.tell("fg", "it goes on\r\n", "fg continues it")
+        t.type("hello\n")
+        t.waits_for("got hello continued %d\r\n" % times, "it has the terminal again")
     t.type("\x04")
     t.waits_for(PROMPT, "it ends")
     t.ends(8)
@@ -416,8 +417,11 @@ def without():
     same("and continues it", (p.communicate()[0], p.returncode), (b"it goes on\n", 0))
     # another process of the run continues the first, while nobody outside would
     code = "while :; do sleep 1; kill -CONT $$; done & kill -STOP $$; kill $!; echo it goes on"
-    p = subprocess.Popen([PROGRAM, "run", "sh", "-c", code], stdout=subprocess.PIPE, start_new_session=True)
-    same("another process continues the first", p.communicate(timeout=PATIENCE)[0], b"it goes on\n")
+    words = (PROGRAM, "run", "sh", "-c", code)
+    script = ("sh", "-c", '"$@"; exit $?', "sh")  # a shell without job control, in whose group the run is
+    for before in ((), script):
+        p = subprocess.Popen([*before, *words], stdout=subprocess.PIPE, start_new_session=True)
+        same("another process continues the first", p.communicate(timeout=PATIENCE)[0], b"it goes on\n")
 
 
 needs = {vim: ("vim.tiny", "vim"), less: ("less",), dash: ("dash",)}
