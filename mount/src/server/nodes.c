@@ -26,7 +26,7 @@ int nodes_find(uint64_t number, struct node *out)
 	uint64_t within = (number - NUMBER_ROOT) % NUMBERS_OF_GROUP;
 	out->group = group_state_numbered(number - within);
 	out->file = within ? file_in_place(within - 1) : NULL;
-	return out->group && (out->file || !within) ? 0 : -ENOENT;
+	return out->group ? 0 : -ENOENT;
 }
 
 /* It is the inverse of nodes_find: the same number as long as the group exists. */

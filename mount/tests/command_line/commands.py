@@ -75,6 +75,11 @@ same("found elsewhere too", said(plain + ":" + usual, "run", "true"), (0, ""))
 same("an empty PATH", said("", "run", "found-here"), denied("found-here"))
 same("without PATH", said(None, "run", "nosuch"), missing("nosuch"))
 same("without PATH, found", said(None, "run", "true"), (0, ""))
+script = 'mount --bind "$1" /usr/bin; unset PATH; exec "$0" run found'
+ran = subprocess.run(
+    ["unshare", "-Urm", "sh", "-ec", script, PROGRAM, plain], stderr=subprocess.PIPE, text=True, timeout=PATIENCE
+)
+same("without PATH, not executable", without_notes((ran.returncode, ran.stderr)), denied("found"))
 same("without a name", said(usual, "run", ""), missing(""))
 os.chmod(closed, 0o700)
 os.chdir("/")

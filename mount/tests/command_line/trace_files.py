@@ -21,12 +21,11 @@ ME = os.path.realpath(__file__)
 TRACE_MAX = 16777216
 
 
-def refused(words):
+def refused(words, fds=()):
     """What the program says and its status; and whether it mounted."""
+    how = {"stderr": subprocess.PIPE, "stdin": subprocess.DEVNULL, "timeout": PATIENCE, "pass_fds": fds}
     try:
-        ran = subprocess.run(
-            [PROGRAM, "mount", *words], stderr=subprocess.PIPE, stdin=subprocess.DEVNULL, timeout=PATIENCE
-        )
+        ran = subprocess.run([PROGRAM, "mount", *words], **how)
     except subprocess.TimeoutExpired:
         return "hangs", ""
     return ran.returncode, ran.stderr.decode()
@@ -60,6 +59,18 @@ def targets():
             same("%s %s" % (option, os.path.basename(where)), (status, words.count("\n")), (2, 1))
             leave(at)
     same("a refused mount leaves the directory", os.listdir(at), [])
+    status, words = refused([at, "--trace", "/nowhere/x", "--answers", "/nowhere/y"])
+    same("neither can be made: one sentence", (status, words.count("\n")), (2, 1))
+    sealed = os.memfd_create("sealed", os.MFD_ALLOW_SEALING)
+    os.write(sealed, b"precious")
+    fcntl.fcntl(sealed, 1033, 2)  # F_ADD_SEALS, F_SEAL_SHRINK
+    for option in ("--trace", "--answers"):
+        status, words = refused([at, option, "/proc/self/fd/%d" % sealed], (sealed,))
+        told = "makhloeum: /proc/self/fd/%d cannot be emptied: Operation not permitted\n" % sealed
+        same("%s in a file that cannot be emptied" % option, (status, words), (2, told))
+        leave(at)
+    same("it is as it was", os.pread(sealed, 99, 0), b"precious")
+    os.close(sealed)
     for one, other in ((file, file), (file, loop), (os.path.join(home, "new"), os.path.join(home, "./new"))):
         status, words = refused([at, "--trace", one, "--answers", other])
         same("one file as both", (status, words.count("\n")), (2, 1))

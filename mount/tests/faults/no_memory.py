@@ -336,6 +336,20 @@ def adopted():
         if not refused and not rest:
             break
     same("a read that finds new children", wrong, [])
+    wrong = []
+    for nth, rest in places():
+        family.end()
+        memory.refuse(nth, rest)
+        got = outcome(lambda: read(group + "/pids.current"))
+        refused = memory.refused()
+        if got not in (b"0\n", "ENOMEM") or not until(lambda: read(group + "/pids.current") == b"0\n"):
+            wrong.append((nth, rest, got))
+        family = Family(group + "/cgroup.procs")
+        until(lambda: read(group + "/pids.current") == b"3\n")
+        if not refused and not rest:
+            break
+    same("a read that finds deaths", wrong, [])
+    step("they were refused", 1 < nth < MOST - 1, nth)
     family.end()
     step("it is unmounted", m.unmounted())
     same("the process ends with the mount", m.ended(), 0)

@@ -269,6 +269,16 @@ def covered():
     same("what is over it stays", os.listdir(at), ["mine"])
 
 
+def unaided():
+    """The companion unmounts what a killed server leaves, without fusermount3 where it may."""
+    at = tempfile.mkdtemp()
+    server = subprocess.Popen([PROGRAM, "mount", at, "--foreground"], env=dict(os.environ, PATH="/nowhere"))
+    step("it is mounted", until(lambda: os.path.ismount(at)))
+    server.kill()
+    server.wait()
+    step("it goes", until(lambda: error_of(os.listdir, at) == "ok" and not os.path.ismount(at)))
+
+
 def unheard():
     """Nobody reads what makhloeum says: that ends no run, and a mount that is refused has its own status."""
     r, w = os.pipe()
@@ -347,6 +357,7 @@ def let_go():
 
 if sys.argv[1:] == ["over"]:
     covered()
+    unaided()
     finish()
 for test, args in (
     (dying_clients, ()),

@@ -121,6 +121,7 @@ for name in ("depth", "newest", "trace", "undo"):
     os.close(fd)
 watch = Watch(a, b)
 tells("nothing at first", watch)
+untold = Watch(*(m.path("a", name) for name in ("cgroup.stat", "pids.current", "pids.peak")))
 write(m.control("exit"), b"2\n")
 tells("one of two exits", watch)
 write(m.control("exit"), b"3\n")
@@ -157,6 +158,7 @@ write(m.path("a", "cgroup.procs"), b"4\n")
 watch.take()
 write(m.path("a", "pids.max"), b"1\n")
 both = m.path("a", "pids.events"), m.path("a", "pids.events.local")
+tells("files that tell of no change", untold)
 events = Watch(*both)
 same("a refused fork", error_of(write, m.control("fork"), b"4 5\n"), "EAGAIN")
 tells("both files report it", events, *both)
@@ -192,7 +194,7 @@ for group in (*groups, "q0"):
 for pid in companions:
     os.kill(pid, signal.SIGCONT)
 tells("all that changed while the companion was stopped", late, *files)
-for w in (watch, events, late):
+for w in (watch, untold, events, late):
     os.close(w.fd)
 m.end()
 finish()

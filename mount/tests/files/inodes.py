@@ -136,6 +136,13 @@ OMIT, NOW = (1 << 30) - 2, (1 << 30) - 1
 libc.utimensat.argtypes = [ctypes.c_int, ctypes.c_char_p, ctypes.c_void_p, ctypes.c_int]
 
 
+def cached(fd):
+    """The mode and the owners that the kernel remembers."""
+    about = (ctypes.c_uint32 * 64)()
+    libc.statx(fd, b"", 0x1000 | 0x4000, 0x7FF, about)  # AT_EMPTY_PATH, AT_STATX_DONT_SYNC
+    return about[7] & 0o7777, about[5], about[6]
+
+
 def set_times(fd, accessed, modified):
     """Each is seconds and nanoseconds."""
     times = (ctypes.c_long * 4)(*accessed, *modified)
@@ -208,7 +215,9 @@ def settings(at):
             until_after(changed)
             begun = time.clock_gettime_ns(TICKS)
             call()
+            remembered = cached(fd)  # before a look-up of the path
             st = os.stat(path)
+            same("%s: what the kernel remembers" % what, remembered, (stat.S_IMODE(st.st_mode), st.st_uid, st.st_gid))
             after = all_of(st)
             wanted = {**before, **{k: after[k] if v is None else v for k, v in sets.items()}}
             same("%s of a %s" % (what, "group" if path == group else "file"), after, wanted)
@@ -408,11 +417,11 @@ def handled(at):
     os.rmdir(group)
 
 
-def by_handle(above, number):
+def by_handle(above, number, flags=os.O_RDONLY):
     """A descriptor of the directory with this number, by a file handle; the name of the errno."""
     # the length, the type, the halves of the number and its generation, as the kernel writes them
     handle = (ctypes.c_uint32 * 5)(12, 0x81, number >> 32, number & 0xFFFFFFFF, 0)
-    fd = libc.open_by_handle_at(above, handle, os.O_RDONLY | os.O_DIRECTORY)
+    fd = libc.open_by_handle_at(above, handle, flags | os.O_DIRECTORY)
     return fd if fd >= 0 else errno.errorcode[ctypes.get_errno()]
 
 
@@ -444,6 +453,11 @@ def look_up_handles(at):
     HIDDEN = (1 << 62) + 8  # the directory that only the helper of a run finds
     told = by_handle(above, HIDDEN)  # ESTALE: outside a run nobody has found it
     step("nobody lists what a run hides", told in ("EACCES", "EPERM", "ESTALE"), told)
+    fd = by_handle(above, HIDDEN, os.O_PATH)
+    if isinstance(fd, int):
+        got = error_of(lambda: os.mkdir("new", dir_fd=fd)), os.path.exists(at + "/new")
+        same("nor makes a group there", got, ("EPERM", False))
+        os.close(fd)
     for fd in opened:
         os.close(fd)
 

@@ -219,6 +219,10 @@ def inside():
     def of_another():
         libc.mount(b"none", home.encode(), b"tmpfs", 0, None)
         libc.umount2(home.encode(), 2)
+        device = os.open("/dev/fuse", os.O_RDWR)
+        libc.mount(b"x", home.encode(), b"fuse", 0, b"fd=%d,rootmode=40000,user_id=0,group_id=0" % device)
+        libc.umount2(home.encode(), 2)
+        os.close(device)
 
     def turned():
         fd = os.open("/proc/self/mountinfo", os.O_RDONLY)
@@ -250,7 +254,7 @@ def inside():
         ("opens of what is not there", lambda: error_of(os.open, "/proc/self/nothing", os.O_RDONLY)),
         ("statfs", lambda: (libc.statfs(AT.encode(), buffer), libc.fstatfs(gone, buffer), libc.statfs(b"/", buffer))),
         ("mounts of cgroup2", mounted),
-        ("mounts of tmpfs", of_another),
+        ("mounts of tmpfs and FUSE", of_another),
         ("mounts that are refused", lambda: libc.mount(b"none", b"/nowhere", b"cgroup2", 0, None)),
         ("fsopen that is refused", lambda: libc.syscall(430, b"cgroup", 0)),
         ("fsopen of cgroup2", stepwise),

@@ -24,7 +24,9 @@ step("it is listed", b"%d" % child.pid in read(m.path("a", "cgroup.procs")).spli
 same("rmdir", error_of(os.rmdir, m.path("a")), "EBUSY")
 same("one that is not there", error_of(write, m.path("a", "cgroup.procs"), b"4194303\n"), "ESRCH")
 pids = [int(p) for p in read(m.path("a", "cgroup.procs")).split()]
+size = os.stat(m.path("a", "cgroup.procs")).st_size
 os.kill(pids[1] if pids[1] != child.pid else pids[0], signal.SIGKILL)
+step("a stat sees a death", until(lambda: os.stat(m.path("a", "cgroup.procs")).st_size < size))
 step("a death is seen", until(lambda: read(m.path("a", "pids.current")) == b"2\n"))
 write(m.path("a", "cgroup.kill"), b"1\n")
 same("a kill is real", child.wait(PATIENCE), -signal.SIGKILL)

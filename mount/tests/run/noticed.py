@@ -240,6 +240,12 @@ def tables():
         for each in many:
             libc.umount2(each, DETACH)
             os.rmdir(each)
+        deep = home + 6 * (b"/" + 200 * b" ")  # a blank takes four bytes in a table
+        os.makedirs(deep)
+        same("a mount at a long place", libc.mount(b"x", deep, b"tmpfs", 0, None), 0)
+        step("it is in the table", b" %s " % deep.replace(b" ", rb"\040") in text(by_link))
+        libc.umount2(deep, DETACH)
+        shutil.rmtree(home + b"/" + 200 * b" ")
         os.close(fd)
         same("the link is still open", text(by_link) != b"", True)
         os.close(by_link)
