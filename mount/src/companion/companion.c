@@ -172,9 +172,8 @@ bool companion_start(struct companion *out, const char *mountpoint, int root)
 		errno = fault;
 		return false;
 	}
-	/* Only for the first child, which ends at once. */
-	while (root < 0 && waitpid(pid, NULL, 0) < 0 && errno == EINTR)
-		;
+	if (root < 0)
+		waitpid(pid, NULL, 0); /* for the first child, which ends at once */
 	*out = (struct companion){ ends[1], root < 0 ? -1 : pid };
 	return true;
 }

@@ -39,7 +39,7 @@ bool path_lookup_is_own(pid_t thread, pid_t number)
 {
 	if (!path_lookup_same_numbers(thread, getpid()))
 		return false;
-	return path_lookup_process_of(number) == getppid() ||
+	return number == getppid() ||
 		(proc_status_number(number, "PPid:") == getppid() && proc_status_number(number, "TracerPid:") == 0);
 }
 

@@ -111,12 +111,9 @@ static int end_of(pid_t child)
 	int status;
 	for (;;) {
 		pid_t n = waitpid(child, &status, WUNTRACED);
-		if (n < 0 && errno != EINTR)
-			return EIO;
-		if (n == child && !WIFSTOPPED(status))
-			return WIFEXITED(status) ? WEXITSTATUS(status) : EIO;
-		if (n == child)
-			kill(child, SIGCONT); /* it cannot fail: it was not waited for */
+		if (n < 0 || !WIFSTOPPED(status))
+			return n > 0 && WIFEXITED(status) ? WEXITSTATUS(status) : EIO;
+		kill(child, SIGCONT); /* it cannot fail: it was not waited for */
 	}
 }
 

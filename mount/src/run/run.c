@@ -211,8 +211,7 @@ static int give_up(pid_t program, const char *why)
 	if (why)
 		say("%s", why);
 	kill(program, SIGKILL); /* it cannot fail: it was not waited for */
-	while (waitpid(program, &status, __WALL) < 0 && errno == EINTR)
-		;
+	waitpid(program, &status, __WALL); /* no signal interrupts it: none has a handler in a process of makhloeum */
 	return REFUSED_HERE;
 }
 
@@ -289,8 +288,7 @@ static void end_server(pid_t server, int end)
 		poll(&from, 1, 10);
 	}
 	kill(server, SIGKILL); /* as above */
-	while (waitpid(server, &status, 0) < 0 && errno == EINTR)
-		;
+	waitpid(server, &status, 0);
 }
 
 /* Whether there is a tracer, as inside another run. Before this process enters a namespace, so /proc is the caller's. */

@@ -248,8 +248,7 @@ static int wait_for(pid_t server, int from)
 	int ended = 0;
 	if (read(from, &status, 1) == 1) /* else the server has ended, and its end of the pipe with it */
 		return 0;
-	while (waitpid(server, &ended, 0) < 0 && errno == EINTR)
-		;
+	waitpid(server, &ended, 0);
 	if (WIFEXITED(ended) && WEXITSTATUS(ended) == REFUSED)
 		return REFUSED; /* it has said why */
 	say("the server of the mount has ended before the mount was in place");

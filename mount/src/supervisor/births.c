@@ -7,7 +7,6 @@
 #include "supervisor/registers.h"
 #include "supervisor/tracee.h"
 #include <errno.h>
-#include <limits.h>
 #include <signal.h>
 #include <stdlib.h>
 #include <string.h>
@@ -40,8 +39,7 @@ struct birth {
    its memory then: half a megabyte after PLACES births. */
 static struct birth *births[PLACES];
 static unsigned last_ticket; /* half of a register: the other half says whether the call was a clone3 */
-static size_t lost; /* births without a creator whose child has not come yet */
-/* The earliest given_up_at of those without a creator, or earlier; 0: none was ever lost. */
+/* The earliest given_up_at of those without a creator, or earlier; 0: there is none. */
 static long long next_look;
 static bool counts_threads;
 
@@ -80,8 +78,6 @@ static void end(struct birth *b)
 		link_namespace(0, (unsigned)b->ticket);
 	if (b->creator)
 		b->creator->makes = NULL;
-	else if (!b->told)
-		lost--;
 	births[b->ticket % PLACES] = NULL;
 	free(b);
 }
@@ -249,8 +245,6 @@ static struct thread *settle(struct birth *b, pid_t child)
 	bool frozen = false;
 	if (b->told)
 		return threads_find(child);
-	if (!b->creator)
-		lost--;
 	b->told = true;
 	b->child = child;
 	/* The kernel's event names the child also when it was killed at once. Its number may then be free already. */
@@ -368,7 +362,6 @@ void births_abandon(struct thread *t)
 	b->creator = NULL;
 	t->makes = NULL;
 	if (!b->told) {
-		lost++;
 		b->given_up_at = milliseconds() + GRACE;
 		/* It exists already if the kernel has finished the call before the kill. Until it comes, or GRACE is over, it
 		   keeps its reservation. */
@@ -381,9 +374,9 @@ void births_abandon(struct thread *t)
 /* All places are looked at, but at most once for each creator that was killed in its call. */
 int births_give_up(void)
 {
-	if (lost == 0)
+	if (next_look == 0)
 		return -1;
-	long long t = milliseconds(), next = LLONG_MAX;
+	long long t = milliseconds(), next = 0;
 	if (t >= next_look) {
 		for (size_t i = 0; i < PLACES; i++) {
 			struct birth *b = births[i];
@@ -391,10 +384,10 @@ int births_give_up(void)
 				continue;
 			if (b->given_up_at <= t)
 				end(b);
-			else if (b->given_up_at < next)
+			else if (next == 0 || b->given_up_at < next)
 				next = b->given_up_at;
 		}
 		next_look = next;
 	}
-	return lost == 0 ? -1 : (int)(next_look - t) + 1;
+	return next_look == 0 ? -1 : (int)(next_look - t) + 1;
 }

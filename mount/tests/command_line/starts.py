@@ -28,7 +28,7 @@ def ran(*words, program=PROGRAM, **how):
         stdout=subprocess.PIPE,
         stderr=subprocess.PIPE,
         timeout=PATIENCE,
-        **how
+        **how,
     )
     return got.returncode, got.stdout.decode(), got.stderr.decode()
 
@@ -56,6 +56,44 @@ def unread(is_ignored, *words):
 
 
 BAD = "makhloeum: bad command line; see makhloeum --help\n"
+OF_BOTH = ["--trace FILE", "--answers FILE", "--keep LIST", "--control"]
+OPTIONS = {
+    "mount": sorted([*OF_BOTH, "--extra", "--adopt", "--foreground"]),
+    "run": sorted([*OF_BOTH, "--root", "--users", "--threads=no", "--"]),
+}
+
+
+def helped(text):
+    """The help names the options of each command, and says once what each does."""
+    lines = text.splitlines()
+    usages = {line.split()[1]: line for line in lines[: lines.index("")]}
+    same("the commands", list(usages), ["mount", "run", "view", "tree", "check", "--version"])
+    for command, options in OPTIONS.items():
+        same("the options of %s" % command, sorted(re.findall(r"\[(--[^\]]*)\]", usages[command])), options)
+    about = {}
+    for line in lines[lines.index("") :]:
+        if named := re.match(r"  (--\S+(?: [A-Z]+)?)(  +|$)", line):
+            about[named[1]] = ""
+        if about and line.startswith("  "):
+            about[list(about)[-1]] += line[len(named[0]) if named else 0 :] + " "
+    same("what is said of each", sorted(about), sorted({*OPTIONS["mount"], *OPTIONS["run"]} - {"--"}))
+    for option, words in (
+        ("--trace FILE", "line time cgreplay same answers"),
+        ("--answers FILE", "write answers"),
+        ("--extra", "cgroup.freeze cgroup.threads cgroup.controllers cgroup.subtree_control cgroup.type cpu.stat"),
+        ("--extra", "pids domain +pids EOPNOTSUPP"),
+        ("--keep LIST", "memory, cpu, io, cpuset cgroup.subtree_control store pids"),
+        ("--adopt", "cgroup.procs children exit cgroup.kill"),
+        ("--control", ".makhloeum: undo forget depth newest trace fork (PARENT CHILD) exit (PID) N"),
+        ("--foreground", "mount foreground"),
+        ("--root", "PROGRAM root namespace"),
+        ("--users", "users groups caller root machine namespace"),
+        ("--threads=no", "counted 1 pids.current"),
+    ):
+        lacks = [word for word in words.split() if word not in about.get(option, "")]
+        same("%s says what it is about" % option, lacks, [])
+    end = " ".join(lines[max(i for i, line in enumerate(lines) if line.startswith("The status")) :])
+    same("the status of run", re.findall(r"\d+", end), ["128", "127", "126", "2"])
 
 
 def options():
@@ -108,6 +146,7 @@ def options():
         same("makhloeum %s" % " ".join(words), ran(*words), (2, "", BAD))
     status, text, said = ran("--help")
     same("--help", (status, said, ran("-h")), (0, "", (0, text, "")))
+    helped(text)
     for (
         option
     ) in "--trace --answers --extra --keep --adopt --control --foreground --root --users --threads=no --version view tree check".split():
@@ -232,6 +271,10 @@ shift; exec "$@" """
     for where, why in ((file, "%s is not a directory"), (at + "/none", missing), ("nosuch/below", missing)):
         same("mount on %s" % os.path.basename(where), ran("mount", where), (2, "", "makhloeum: " + why % where + "\n"))
     same("nothing is mounted", (os.path.ismount(at), os.listdir(at)), (False, []))
+    if os.geteuid():  # fusermount3 says why before
+        said = ran("mount", "/usr")
+        why = "no file system can be mounted on /usr: /dev/fuse, fusermount3 or the directory does not allow it"
+        same("mount on what is another user's", (said[0], said[2].splitlines()[-1]), (2, "makhloeum: " + why))
 
 
 # A signal that comes just before signal.pause would wait for the next one: so each is read.
@@ -327,12 +370,16 @@ def killed():
     m.process.send_signal(signal.SIGSTOP)
     # a thread that still ran could take the open and then stop: nothing would end that open, not even SIGKILL
     step("all threads of the other mount's server have stopped", until(lambda: states_of(m.process.pid) == {"T"}))
-    p = subprocess.Popen([PROGRAM, "mount", at, "--trace", m.path("trace")])
+    p = subprocess.Popen([PROGRAM, "mount", at, "--trace", m.path("trace")], stderr=subprocess.PIPE, text=True)
     children = lambda: [int(n) for n in os.listdir("/proc") if n.isdigit() and parent_of(int(n)) == p.pid]
     step("there is a server", until(children))
     for pid in children():
         os.kill(pid, signal.SIGKILL)
     same("its status", status_within(p), 1)
+    same(
+        "what it says", p.stderr.read(), "makhloeum: the server of the mount has ended before the mount was in place\n"
+    )
+    p.stderr.close()
     m.process.send_signal(signal.SIGCONT)
     m.end()
 

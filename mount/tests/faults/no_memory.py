@@ -339,6 +339,7 @@ def adopted():
     wrong = []
     for nth, rest in places():
         family.end()
+        until(lambda: family.alive() == 0)
         memory.refuse(nth, rest)
         got = outcome(lambda: read(group + "/pids.current"))
         refused = memory.refused()

@@ -3,7 +3,9 @@
 #include <dirent.h>
 #include <errno.h>
 #include <fcntl.h>
+#include <linux/filter.h>
 #include <linux/sched.h>
+#include <linux/seccomp.h>
 #include <pthread.h>
 #include <sched.h>
 #include <signal.h>
@@ -13,6 +15,7 @@
 #include <stdlib.h>
 #include <string.h>
 #include <sys/mman.h>
+#include <sys/prctl.h>
 #include <sys/resource.h>
 #include <sys/stat.h>
 #include <sys/syscall.h>
@@ -111,7 +114,24 @@ static int sixteen(int count)
 	return 0;
 }
 
-/* As many clone3 calls wait as may, but one; and then that one too. What another clone3 comes to each time, and then a fork. */
+/* The errno of a child that adds a filter, or else asks for the strict mode; 0: it did. */
+static int restricted(bool by_filter)
+{
+	static struct sock_filter code[] = { BPF_STMT(BPF_RET | BPF_K, SECCOMP_RET_ALLOW) };
+	static const struct sock_fprog program = { 1, code };
+	int status = 0;
+	pid_t pid = fork();
+	if (pid == 0) {
+		prctl(PR_SET_NO_NEW_PRIVS, 1, 0, 0, 0);
+		int result = by_filter ? prctl(PR_SET_SECCOMP, SECCOMP_MODE_FILTER, &program, 0, 0)
+							   : prctl(PR_SET_SECCOMP, SECCOMP_MODE_STRICT, 0, 0, 0);
+		syscall(SYS_exit, result ? errno : 0);
+	}
+	return waitpid(pid, &status, 0) == pid && WIFEXITED(status) ? WEXITSTATUS(status) : -1;
+}
+
+/* As many clone3 calls wait as may, but one; and then that one too. What another clone3 comes to each time, and then a fork; and what
+   comes of a filter and of the strict mode then. */
 static int full(int most)
 {
 	pthread_t thread;
@@ -130,7 +150,8 @@ static int full(int most)
 	pid_t pid = fork();
 	if (pid == 0)
 		_exit(0);
-	printf("%s\n", pid > 0 ? "ok" : strerrorname_np(errno));
+	printf("%s ", pid > 0 ? "ok" : strerrorname_np(errno));
+	printf("%d %d\n", restricted(true), restricted(false));
 	return 0;
 }
 

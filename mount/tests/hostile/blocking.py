@@ -327,7 +327,7 @@ def waiting():
 def crowded():
     """So many clone3 calls wait for memory that no more may: then C libraries use clone."""
     ran = subprocess.run([BLOCKING, "full", PAGE], stdout=subprocess.PIPE, timeout=4 * PATIENCE)
-    same("the 512th clone3, the 513th, and a fork", ran.stdout, b"ok ENOSYS ok\n")
+    same("the 512th clone3, the 513th, a fork, a filter and the strict mode", ran.stdout, b"ok ENOSYS ok 0 0\n")
     step("others still run", forks())
 
 

@@ -27,6 +27,7 @@ from support import (
     same,
     step,
     ticks,
+    tracer,
     until,
     write,
 )
@@ -820,6 +821,20 @@ def translates():
         return error_of(fcntl.ioctl, space, 0x8004B706, os.getpid()) == "ok"  # NS_GET_PID_FROM_PIDNS
 
 
+LIMITS = """import os, resource, signal, sys
+for _ in range(50):
+    with open("/proc/sys/kernel/ns_last_pid", "w") as f:
+        f.write(str(int(sys.argv[1]) - 1))
+    pid = os.fork()
+    if pid == 0:
+        signal.pause()
+    if pid == int(sys.argv[1]):
+        break
+resource.prlimit(pid, resource.RLIMIT_CORE, (0, 0))
+print(pid)
+"""
+
+
 def numbered(at=AT):
     """The number in a path of /proc is of the PID namespace in which that /proc was mounted, whoever asks."""
     for g in ("/a", "/b", "/c"):
@@ -837,6 +852,9 @@ def numbered(at=AT):
         wanted = ["/proc/self/mounts:1", "/proc/thread-self/mounts:1", "/proc/%d/mounts:1" % numbers[0]]
         same("its table of mounts", shell(script, "unshare", "-pf")[1].split(), wanted)
         same("its cpuset", shell("cat /proc/self/cpuset", "unshare", "-pf")[1], "/\n")
+        words = ["unshare", "-pf", sys.executable, "-c", LIMITS, "%d" % tracer()]
+        got = subprocess.run(words, stdout=subprocess.PIPE, text=True, timeout=PATIENCE)
+        same("one with a number of makhloeum gets a limit", (got.returncode, got.stdout), (0, "%d\n" % tracer()))
     if at != AT or translates():
         others_of(at, here, there, below)
     other.kill()
