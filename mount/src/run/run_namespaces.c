@@ -89,7 +89,7 @@ static bool enter_with_all(void)
 	close(is_in[0]);
 	close(is_in[1]);
 	if (writer > 0)
-		waitpid(writer, &status, 0);
+		waitpid(writer, &status, 0); /* no signal has a handler here, so none interrupts it */
 	/* The writer's status is its errno. */
 	errno = !entered ? fault : WIFEXITED(status) ? WEXITSTATUS(status) : EIO;
 	return errno == 0;

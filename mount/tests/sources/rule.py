@@ -2,7 +2,7 @@
 supervisor of a run, and a thread of the server that holds the engine's lock, look up no path and touch no memory of the program. Here
 the calls that would do so are looked for in the sources of their folders; blocking.py tries it. A folder also includes only headers of
 the folders that its line names: so code that may block is not called from a folder that may not. Then each of these rules is broken in
-a copy of the sources, which has to be refused."""
+a copy of the sources, which has to be refused. Each header is read once in a source, whatever includes it."""
 import functools
 import os
 import re
@@ -82,7 +82,7 @@ registers_set_call registers_set_ticket registers_set_result""".split()
 @functools.lru_cache(maxsize=None)
 def faults_of(name, text):
     """What is against the rules in one file."""
-    found = list(unchecked(name, text))
+    found = [*unchecked(name, text), *(guarded(name, text) if name.endswith(".h") else ())]
     folder = os.path.dirname(name)
     if folder in FOLDERS:
         found += includes(name, text)
@@ -114,6 +114,13 @@ def blocking(name, text):
         found = [c for c in re.findall(r"(?<![\w.>])(\w+)\s*\(", line) if c in CALLS and not c.startswith(own)]
         found += [w for w in re.findall(r"\w+", line) if w in WORDS]
         yield from (f"{name}:{number}: {c}" for c in found if c not in allowed)
+
+
+def guarded(name, text):
+    """A header is read once in each source, by a name that ends in its own."""
+    own = re.sub(r"\W", "_", os.path.basename(name)).upper()
+    if not re.search(rf"(?m)^#ifndef (\w*{own})\n#define \1\n", text) or not text.endswith("\n#endif\n"):
+        yield f"{name}: it is not between #ifndef {own}, #define {own} and #endif"
 
 
 def includes(name, text):
@@ -163,6 +170,12 @@ def planted(sources):
             if to not in (folder, *may_include):
                 yield f"{header} in {name}", {**sources, name: f'#include "{header}"\n' + sources[name]}
     yield "an unchecked ptrace", {**sources, "run/new.c": "\tptrace(1);\n"}
+    for name, old, new in (
+        ("common/beneath.h", "#define BENEATH_H", "#define BENEATHS_H"),
+        ("common/beneath.h", "#ifndef BENEATH_H", "#ifndef BENEATHS_H"),
+        ("common/beneath.h", "\n#endif\n", "\n"),
+    ):
+        yield f"{new} in {name}", {**sources, name: sources[name].replace(old, new)}
     yield "a new folder", {**sources, "new/new.c": ""}
     yield "a full folder", {**sources, **{f"common/new{n}.c": "" for n in range(MOST_COMMON)}}
 
