@@ -7,6 +7,7 @@ import errno
 import mmap
 import os
 import signal
+import struct
 import subprocess
 import sys
 import threading
@@ -102,6 +103,10 @@ def full():
         step("an open ends", read("/proc/self/cgroup") != b"")
     root = os.open(AT, os.O_RDONLY)
     same("clone3 ends", clone_into(root) in ("EAGAIN", "ENOSYS"), True)
+    code = ctypes.create_string_buffer(struct.pack("HBBI", 6, 0, 0, 0x7FFF0000))  # it allows all
+    words = ctypes.create_string_buffer(struct.pack("HxxxxxxP", 1, ctypes.addressof(code)))
+    libc.prctl(38, 1, 0, 0, 0)  # PR_SET_NO_NEW_PRIVS
+    same("a filter is added", libc.prctl(22, 2, words, 0, 0), 0)  # PR_SET_SECCOMP, SECCOMP_MODE_FILTER
     os.path.exists(stalled + "/go")
     children.end()
     signal.alarm(0)

@@ -102,15 +102,20 @@ def pairs():
         same("from %s" % (root or "/"), ran.stdout.decode().split(), ["0::" + seen_from(root, g) for g in groups])
 
 
+def put_into_effect(those):
+    """From now on no other capabilities are in effect."""
+    head, data = (ctypes.c_uint32 * 2)(0x20080522, 0), (ctypes.c_uint32 * 6)()
+    libc.capget(head, data)
+    data[0], data[3] = those, 0
+    libc.capset(head, data)
+
+
 def without_effect(call, but=0):
     """What a call returns in a child that has all its capabilities, but none in effect except these."""
     r, w = os.pipe()
     pid = os.fork()
     if pid == 0:
-        head, data = (ctypes.c_uint32 * 2)(0x20080522, 0), (ctypes.c_uint32 * 6)()
-        libc.capget(head, data)
-        data[0], data[3] = but, 0
-        libc.capset(head, data)
+        put_into_effect(but)
         os.write(w, call().encode())
         os._exit(0)
     os.waitpid(pid, 0)
@@ -398,7 +403,8 @@ def mounted_by_thread(at):
 
 
 def rewritten():
-    """A second thread rewrites the type of a mount while it is looked at."""
+    """A second thread rewrites the type of a mount while it is looked at. Both have only the capability that a mount needs."""
+    put_into_effect(SYS_ADMIN)
     home, there = tempfile.mkdtemp(), os.stat(AT).st_dev
     kind, seen, done = ctypes.create_string_buffer(16), [], []
 

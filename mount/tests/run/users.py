@@ -104,13 +104,13 @@ ran = subprocess.run([PROGRAM, "run", sys.executable, ME, "alone"], timeout=6 * 
 same("a run of the superuser: its status", ran.returncode, 0)
 # another group than that of the user's number
 script = """id -u; id -g; cat /proc/self/uid_map /proc/self/gid_map /proc/self/setgroups; cd /sys/fs/cgroup; mkdir g
-stat -c %u:%g . g g/pids.max; echo 0 >g/cgroup.procs; cat /proc/self/cgroup"""
+stat -c %u:%g . .makhloeum .makhloeum/fork g g/pids.max; echo 0 >g/cgroup.procs; cat /proc/self/cgroup"""
 for user, group in ((3, 4), (5, 2)):
-    as_user = ["setpriv", "--reuid", str(user), "--regid", str(group), "--clear-groups", PROGRAM, "run"]
+    as_user = ["setpriv", "--reuid", str(user), "--regid", str(group), "--clear-groups", PROGRAM, "run", "--control"]
     for options, own in (([], (user, group)), (["--root"], (0, 0))):
         status, text, said_too = said(*as_user, *options, "--", "sh", "-c", script, cwd="/")
         lines = [line.split() for line in text.splitlines()]
         maps = ([str(n), str(n) if not options else "0", "1"] for n in own)
-        wanted = [[str(own[0])], [str(own[1])], *maps, ["deny"], *[["%d:%d" % own]] * 3, ["0::/g"]]
+        wanted = [[str(own[0])], [str(own[1])], *maps, ["deny"], *[["%d:%d" % own]] * 5, ["0::/g"]]
         same("user %d, group %d %s" % (user, group, options), (status, lines, said_too), (0, wanted, ""))
 finish()
