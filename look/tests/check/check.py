@@ -148,7 +148,18 @@ def same_on(name, mount, count, *words):
 
 def same_under_run():
     """There limits refuse real forks, and /proc/PID/cgroup shows the group."""
-    command = [MAKHLOEUM, "run", "--", *CHECK, "/sys/fs/cgroup", "--count", "1500", "--no-worked", "--limit", str(PATIENCE)]
+    command = [
+        MAKHLOEUM,
+        "run",
+        "--",
+        *CHECK,
+        "/sys/fs/cgroup",
+        "--count",
+        "1500",
+        "--no-worked",
+        "--limit",
+        str(PATIENCE),
+    ]
     ran = subprocess.run(command, capture_output=True, text=True, timeout=6 * PATIENCE)
     if ran.returncode == 2 and "does not allow" in ran.stderr:
         print("look/test-check: makhloeum run: skipped, " + ran.stderr.strip())
@@ -264,7 +275,10 @@ def not_removed():
 def signalled(number, status):
     with adopting() as m:
         running = subprocess.Popen(
-            [*CHECK, m.at, "--count", "1000000", "--limit", str(PATIENCE)], stdout=subprocess.PIPE, stderr=subprocess.PIPE, text=True
+            [*CHECK, m.at, "--count", "1000000", "--limit", str(PATIENCE)],
+            stdout=subprocess.PIPE,
+            stderr=subprocess.PIPE,
+            text=True,
         )
         step("it runs", until(m.is_played))
         running.send_signal(number)
