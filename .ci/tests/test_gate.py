@@ -33,6 +33,7 @@ status=0
 file=$top/status/${name//\\//+}
 [ ! -e "$file" ] || status=$(cat "$file")
 if [ "$status" = waits ]; then echo waits >"$top/waits"; exec sleep 600; fi
+[ "$*" = --take-back ] || echo "told by $name${*:+ $*}"
 [ "$*" = --take-back ] || if [ "$status" = 0 ]; then echo "1 passed, 0 failed"; else echo "0 passed, 1 failed"; fi
 exit "$status"
 """
@@ -119,6 +120,12 @@ class Gates(unittest.TestCase):
         self.comes_to(name, 0)
         return ran.returncode
 
+    @staticmethod
+    def names_of(lines):
+        """The name of each part, with the first command of it that told something."""
+        told = [(line[3:], lines[at + 1]) for at, line in enumerate(lines[:-1]) if line.startswith("== ")]
+        return {name: first.removeprefix("told by ") for name, first in told if first.startswith("told by ")}
+
     def parts_with_a_time(self, gate):
         """The commands that the gate ends after a time, each with it."""
         self.write("tools/timeout", f'#!/bin/sh\necho "$*" >>{self.top}/times\nshift 3\nexec "$@"\n', 0o755)
@@ -127,6 +134,27 @@ class Gates(unittest.TestCase):
             return {line.split(" ", 3)[3]: line.split()[:3] for line in it.read().splitlines()}
 
 
+# The name of each part that more than one gate has, and its command.
+NAMES = {
+    "the style of C, Python and scripts": ".ci/style",
+    "the answers of Linux": "evidence/compare",
+    "what a release promises": ".ci/promised",
+}
+OF_TWO = {
+    "refused allocations and calls": ".ci/refused/run",
+    "the shell": ".ci/shell/run",
+    "the greatest sizes": "evidence/sizes",
+    "C, Python and Go": "bindings/test",
+    "the pages": "look/test",
+    "makhloeum check": "look/test-check",
+    "the mount": "mount/test",
+}
+CHECKED = {
+    "the documents": ".ci/documents",
+    "each definition has a law": ".ci/laws",
+    "edits can be applied": ".ci/edits --check",
+    "mutants can be applied": ".ci/mutants --check",
+}
 ENDS = ((signal.SIGTERM, 143), (signal.SIGINT, 130), (signal.SIGHUP, 129))
 
 
@@ -146,6 +174,17 @@ class Run(Gates):
         # rt, the edits, and each part; the libraries are one, whose last line counts
         self.assertEqual(lines[-1], f"{2 + len(BEFORE) - 2 + len(AFTER) + 1} passed, 0 failed")
         self.assertFalse([line for line in lines if line.startswith("commit ")])
+        more = {
+            "what must not compile": ".ci/must-not-compile/run",
+            "the functions of C that proofs assume": ".ci/assumed",
+            "the benchmark": "evidence/bench/bench --quick",
+            "the libraries for C": ".ci/static-library",
+            "the installation": ".ci/installed/run",
+            "the packages": ".ci/installed/packages",
+            "the packages, made twice": ".ci/installed/reproducible",
+            "mutants": LAST,
+        }
+        self.assertEqual(self.names_of(lines), {**NAMES, **OF_TWO, **more})
 
     def test_the_proofs_begin_only_if_documents_and_mutants_are_right(self):
         for name in (".ci/documents", "completion/generate", ".ci/mutants"):
@@ -269,6 +308,14 @@ class Quick(Gates):
             {call.split()[0] for call in calls[8:]}, {".ci/promised", "bindings/test", "look/test", "mount/test"}
         )
         self.assertEqual(lines[-1], "12 passed, 0 failed")
+        more = {
+            "crates without proofs": ".ci/unproved main",
+            "the libraries for C": "bindings/build",
+            "C and Python": "bindings/test checks typed clients mounted test_calls test_errors test_mounted",
+            "the page": "look/test state test_history",
+            "the mount": "mount/test files values controllers events attributes",
+        }
+        self.assertEqual(self.names_of(lines), {**NAMES, **CHECKED, **more})
 
     def test_it_ends_by_a_signal(self):
         for number, status in ENDS:
@@ -365,6 +412,13 @@ class AllUnproved(Gates):
         self.assertEqual(calls[-1], "mount/test", "it runs alone")
         self.assertEqual(lines[-1], f"{len(calls)} passed, 0 failed")
         self.assertIn("  the proofs, and the edits that the prover refuses: skipped, .ci/run has them", lines)
+        more = {
+            "all that is tested, built without proofs": "try",
+            "the completions": "completion/generate --check",
+            "each crate": ".ci/unproved --crates",
+            "the benchmark's answers": "evidence/bench/bench --quick",
+        }
+        self.assertEqual(self.names_of(lines), {**NAMES, **OF_TWO, **CHECKED, **more})
 
     def test_it_ends_by_a_signal(self):
         for number, status in ENDS:
