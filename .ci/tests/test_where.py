@@ -433,7 +433,7 @@ class OfAMadeUpRepository(unittest.TestCase):
                 return where.main([*words]), out.getvalue(), error.getvalue()
 
     def test_its_own_words(self):
-        for said_words, status, out, error in (
+        for given, status, out, error in (
             ([], 2, "", f"{where.__doc__}\n"),
             (["--"], 2, "", f"{where.__doc__}\n"),
             (["--help"], 0, f"{where.__doc__}\n", ""),
@@ -441,7 +441,7 @@ class OfAMadeUpRepository(unittest.TestCase):
             (["--", "--keep"], 0, "\n".join(self.screen("--keep")) + "\n", ""),
             (["--all", "--", "absent", "here"], 1, "absent here: no file of the repository has it\n", ""),
         ):
-            self.assertEqual(self.said_by(*said_words), (status, out, error), said_words)
+            self.assertEqual(self.said_by(*given), (status, out, error), given)
 
     def test_definitions_of_the_model_are_first_and_those_of_crates_next(self):
         texts = {
