@@ -10,6 +10,7 @@ from scripts import TOP, load
 
 models = load("bindings/models")
 sys.path.append(os.path.join(TOP, "bindings", "tests", "models"))
+import model  # noqa: E402
 from calls import World, playable  # noqa: E402
 from draw import WEIGHTS, Draw  # noqa: E402
 from shorten import ENDED, Wrong, shortened, wrong  # noqa: E402
@@ -214,6 +215,68 @@ class Whole(unittest.TestCase):
 
     def test_other_words_are_refused(self):
         self.assertEqual(self.said("1", "2", "3"), (2, [], f"{models.__doc__}\n"))
+
+
+# A trace, with the answer to each numbered line as docs/FORMATS.md has it.
+ANSWERED = (
+    (b"# a comment", None),
+    (b" \t\r", None),
+    (b"mkdir /a", b"ok"),
+    (b"\tmkdir  /a\r", b"refused exists"),
+    (b"mkdir /b/c", b"refused nogroup /b"),
+    (b"mkdir a", b"refused path"),
+    (b"mkdir", b"refused syntax"),
+    (b"mkdir /" + b"n" * 8200, b"refused syntax"),
+    (b"fork 1 2", b"ok"),
+    (b"fork 1 2", b"refused pidinuse 2"),
+    (b"fork 9 3", b"refused noprocess 9"),
+    (b"write /a pids.max 1", b"ok"),
+    (b"write /a cgroup.procs 2", b"ok"),
+    (b"fork 2 3", b"refused pidsmax /a"),
+    (b"cat /a pids.events", b"ok\n| max 1"),
+    (b"cat /a pids.events.local", b"ok\n| max 1"),
+    (b"cat /a pids.peak", b"ok\n| 1"),
+    (b"cat / \xff", b"refused file"),
+    (b"write /a pids.events 1", b"refused direction"),
+    (b"cat /a cgroup.kill", b"refused direction"),
+    (b"write / pids.max 1", b"refused nofile"),
+    (b"cat / cgroup.events", b"refused nofile"),
+    (b"write /a pids.max 01", b"refused value"),
+    (b"write /a cgroup.procs 0", b"refused value"),
+    (b"write /a cgroup.procs 4194304", b"refused value"),
+    (b"rmdir /a", b"refused hasprocesses"),
+    (b"rmdir /", b"refused rootfixed"),
+    (b"where 2", b"ok\n| 0::/a"),
+    (b"where 7", b"refused noprocess 7"),
+    (b"exit 7", b"refused noprocess 7"),
+    (b"undo", b"ok\n| fork 2 3"),
+    (b"undo", b"ok\n| write /a cgroup.procs 2"),
+    (b"cat / cgroup.procs", b"ok\n| 1\n| 2"),
+    (b"mkdir /a/b", b"ok"),
+    (b"rmdir /a", b"refused haschildren"),
+    (b"cat / cgroup.stat", b"ok\n| nr_descendants 2\n| nr_dying_descendants 0"),
+    (b"write /a/b cgroup.procs 2", b"ok"),
+    (b"write /a cgroup.max.depth 1", b"ok"),
+    (b"mkdir /a/b/c", b"refused depth /a"),
+    (b"write / cgroup.max.descendants 2", b"ok"),
+    (b"mkdir /c", b"refused descendants /"),
+    (b"write /a cgroup.kill 1", b"ok"),
+    (b"cat /a cgroup.events", b"ok\n| populated 0\n| frozen 0"),
+    (b"undo", b"ok\n| write /a cgroup.kill 1"),
+    (b"cat /a cgroup.events", b"ok\n| populated 1\n| frozen 0"),
+    (b"exit 2", b"ok"),
+    (b"cat /a pids.current", b"ok\n| 0"),
+    (b"cat / pids.max", b"refused nofile"),
+    (b"cat /a cgroup.max.descendants", b"ok\n| max"),
+)
+
+
+class Answers(unittest.TestCase):
+    def test_the_model_answers_as_the_page_of_formats_says(self):
+        trace = b"".join(line + b"\n" for line, _ in ANSWERED)
+        wanted = [answer for _, answer in ANSWERED if answer is not None]
+        found = model.answers(trace)
+        self.assertEqual(found, [b"%d %s\n" % (number, answer) for number, answer in enumerate(wanted, 1)])
 
 
 class Words(unittest.TestCase):
