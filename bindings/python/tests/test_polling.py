@@ -200,15 +200,15 @@ def test_nothing_is_kept_of_files_that_are_closed(hierarchy):
     assert CALLS._mounts == [] and CALLS.descriptors._opened == {}
 
 
-def test_files_may_be_opened_and_dropped_while_all_are_looked_at(hierarchy):
-    """A thread looks at them while others open and close files."""
+def test_files_may_be_opened_while_all_are_looked_at(hierarchy):
+    """A thread looks at them while others open files."""
     watch, told = _notify.Watch(hierarchy), []
 
     class Another:
-        """A reference whose look adds and drops others, as a thread may at that moment."""
+        """A reference whose look adds another, as a thread may at that moment."""
 
         def __call__(self):
-            watch._pollers.symmetric_difference_update({Another(), self})
+            watch._pollers.add(Another())
             return told
 
     watch._pollers.update({Another(), Another(), Another()})
