@@ -1,4 +1,4 @@
-"""What a line of the repository is: the part that it belongs to, the function that it is in, its contract, what it breaks."""
+"""What a line of the repository is: the part that it belongs to, the function that it is in, its contract."""
 
 import functools
 import re
@@ -14,7 +14,7 @@ TESTS = re.compile(
 )
 RECORDED = re.compile(r"^evidence/linux[^/]*/")
 ENDINGS = {
-    **{".md": "documents", ".svg": "documents", ".edit": "edits"},
+    **{".md": "documents", ".svg": "documents", ".edit": "edits", ".edits": "edits"},
     **{".mutants": "mutants", ".recorded": "recordings"},
 }
 
@@ -69,22 +69,3 @@ def contract_of(lines, number):
         if names and not place.startswith("std."):
             clauses.append(f"cites {', '.join(names)} of {place.replace('.', '/')}.antt")
     return clauses
-
-
-def broken_by(path, texts):
-    """The functions whose bodies an edit changes, each with its file."""
-    found, file = [], None
-    for line in texts[path].split("\n"):
-        if line.startswith("file: "):
-            file = f"crates/{path.split('/')[1]}/{line.removeprefix('file: ').strip()}"
-        elif line.startswith("old: ") and file in texts:
-            before, old, _ = texts[file].partition(line.removeprefix("old: "))
-            if old:
-                found.append((file, functions_of(texts[file])[before.count("\n") + 1]))
-    return found
-
-
-def named_by(path, texts):
-    """What an edit breaks: what its line `# breaks:` says, else the functions that it changes."""
-    said = re.findall(r"^# breaks: (.+)$", texts[path], re.M)
-    return said or sorted({function for _, function in broken_by(path, texts) if function}) or ["no function"]

@@ -3,6 +3,7 @@
 import re
 
 from .definitions import definition_of
+from .edits import edits_of
 
 COMMENT = re.compile(r"^\s*(//[/!]?|--) ?(.*)$")
 CODE = re.compile(r"`([^`]+)`")
@@ -30,15 +31,21 @@ def is_there(name, texts):
 def faults_of_subjects(texts):
     """Edits without a line `# breaks:` and case files without `# shows:`, or whose line names nothing that is there."""
     for path, text in texts.items():
-        verb = {"edit": "breaks", "cases": "shows"}.get(path.rsplit(".", 1)[-1])
-        if verb:
-            said = re.findall(rf"^# {verb}: (.+)$", text, re.M)
-            names = [name for line in said for name in line.split(", ")]
-            if not names:
-                yield f"{path}: no line `# {verb}: NAME`"
-            for name in names:
-                if not is_there(name, texts):
-                    yield f"{path}: {verb} {name}, which is not there"
+        if path.endswith(".cases"):
+            yield from faults_of_subject(path, "shows", text, texts)
+        for edit in edits_of(path, text):
+            at = path if path.endswith(".edit") else f"{path}: {edit.name}"
+            yield from faults_of_subject(at, "breaks", edit.text, texts)
+
+
+def faults_of_subject(at, verb, text, texts):
+    said = re.findall(rf"^# {verb}: (.+)$", text, re.M)
+    names = [name for line in said for name in line.split(", ")]
+    if not names:
+        yield f"{at}: no line `# {verb}: NAME`"
+    for name in names:
+        if not is_there(name, texts):
+            yield f"{at}: {verb} {name}, which is not there"
 
 
 def crates_with_those_below(listing):

@@ -47,7 +47,7 @@ def ending(path):
 def definition_of(path, names):
     """What a line of that file matches if it defines one of the names; None if the file can't define one."""
     either = "|".join(map(re.escape, names))
-    if path.endswith(".mutants"):
+    if path.endswith((".mutants", ".edits")):
         return re.compile(rf"^== ({either})\s*$")
     if path.endswith(".antt") and "/specs/" in path:
         return re.compile(rf"^\s*((abbrev|unfoldable|pub|record|data|rel) )+({either})\b|^  (pub )?({either}) : ")

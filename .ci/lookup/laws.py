@@ -4,7 +4,7 @@ import os
 
 from lookup.clauses import Definition
 
-SKIPPED = {"out", "proofs", "must-fail", "must-fail-more", "data"}
+SKIPPED = {"out", "proofs", "must-fail", "data"}
 
 
 def read_texts(root):

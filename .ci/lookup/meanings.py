@@ -4,9 +4,11 @@ import re
 
 from .clauses import imports
 from .definitions import definition_of
+from .edits import edit_at
 
 FIELD = re.compile(r"  (pub )?\S+ : ")
-COMMENTS = {".rt": "//", ".antt": "--", ".edit": "# "}
+COMMENTS = {".rt": "//", ".antt": "--", ".edit": "# ", ".edits": "# "}
+OF_A_CRATE = re.compile(r"crates/\w+/((src|specs|proofs|must-fail)/|must-fail-more\.edits$)")
 
 
 class Meaning:
@@ -30,22 +32,22 @@ class Meaning:
         """Whether there is such a definition."""
         return bool(self.crates)
 
-    def is_in(self, path, line):
+    def is_in(self, path, number, line):
         """Whether a line that has the word means the definition: True, False, or None if the text doesn't tell."""
-        answers = [self.is_meant(path, line, found) for found in self.word.finditer(line)]
+        answers = [self.is_meant(path, number, line, found) for found in self.word.finditer(line)]
         return True if True in answers else None if None in answers else False
 
     def is_ours(self, key):
         return key[0] in self.crates and key[1:] == (self.owner, self.name)
 
-    def is_meant(self, path, line, found):
+    def is_meant(self, path, number, line, found):
         first, mark, _ = found.groups()
         if first == self.owner and mark == ".":
             return True
         if first in self.others and mark == ".":
             return False
-        if re.match(r"crates/\w+/(src|specs|proofs|must-fail|must-fail-more)/", path):
-            return self.is_meant_in_crate(path, line, found)
+        if OF_A_CRATE.match(path):
+            return self.is_meant_in_crate(path, number, line, found)
         page = re.fullmatch(r"docs/reference/(\w+)\.md", path)
         if page:
             return not first and page[1] in self.crates
@@ -54,9 +56,9 @@ class Meaning:
         # another language: what it defines itself is another thing
         return False if self.defines(path) else None
 
-    def is_meant_in_crate(self, path, line, found):
+    def is_meant_in_crate(self, path, number, line, found):
         first, mark, behind = found.groups()
-        names, files = self.imported(path)
+        names, files = self.imported(path, number)
         comment = COMMENTS.get(path[path.rindex(".") :] if "." in path else "", "//")
         is_comment = -1 < line.find(comment) < found.start()
         if first and mark == ".":
@@ -78,18 +80,15 @@ class Meaning:
     def is_own(self, path):
         return any(path == f"crates/{crate}/specs/{self.owner}.antt" for crate in self.crates)
 
-    def imported(self, path):
-        """What the words of a file mean; of an edit, those of the file that it changes."""
-        if path not in self.known:
-            text, (_, crate, *_) = self.texts[path], path.split("/")
+    def imported(self, path, number):
+        """What the words of a file mean; of a line of an edit, those of the files that the edit changes."""
+        edit = edit_at(path, self.texts[path], number)
+        key = (path, edit and edit.name)
+        if key not in self.known:
             own = re.fullmatch(r"crates/\w+/specs/(\w+)\.antt", path)
-            if path.endswith(".edit"):
-                text = "\n".join(
-                    self.texts.get(f"crates/{crate}/{name.strip()}", "")
-                    for name in re.findall(r"^file: (.+)$", text, re.M)
-                )
-            self.known[path] = imports(text, crate, own and own[1])
-        return self.known[path]
+            texts = [self.texts.get(name, "") for name in edit.sources] if edit else [self.texts[path]]
+            self.known[key] = imports("\n".join(texts), path.split("/")[1], own and own[1])
+        return self.known[key]
 
     def defines(self, path):
         pattern = definition_of(path, [self.name])

@@ -85,11 +85,17 @@ def of_command(name, row):
     return [], f"command: {name} {arguments}: {meaning}" if name == example.split()[0] else ""
 
 
+def of_system_call(name, texts):
+    """How C's headers name the number of a system call, if a file here has that."""
+    numbers = (f"SYS_{name}", f"__NR_{name}") if re.fullmatch(r"[a-z]\w*", name) else ()
+    return [it for it in numbers if any(it in text and pattern_of([it]).search(text) for text in texts.values())]
+
+
 def same_things(name, texts):
     """The other names of the same thing, and what the table of words says of it."""
     kinds = {"path": of_path, "status": of_status, "number": of_number, "command": of_command}
     with_texts = {"file": of_file, "refusal": of_code, "fault": of_code}
-    others = with_separators(name) if re.fullmatch(r"\d{4,}", name) else []
+    others = with_separators(name) if re.fullmatch(r"\d{4,}", name) else of_system_call(name, texts)
     said = []
     for kind, *row in (line.split("\t") for line in texts.get(TABLE, "").splitlines() if not line.startswith("#")):
         more, sentence = with_texts[kind](name, row, texts) if kind in with_texts else kinds[kind](name, row)

@@ -69,7 +69,7 @@ def faults_of_unproved(texts):
             comments[path], text = split(text, find(text))
         elif path.endswith((".rt", ".antt")):
             text = re.sub(r"(?m)^\s*(//|--).*", "", text)
-        elif path.endswith((".md", ".mutants", ".edit")):
+        elif path.endswith((".md", ".mutants", ".edit", ".edits")):
             continue
         if not path.startswith(".ci/tests/"):  # whose texts have made-up names
             words.update(re.findall(r"\w+", text))
