@@ -12,7 +12,7 @@ LINK = (
     "-m elf_x86_64 -pie --dynamic-linker /lib64/ld-linux-x86-64.so.2 --as-needed -z relro -z now -z noexecstack "
     "--eh-frame-hdr --gc-sections"
 )
-# The member of the library that says how it was made. bindings/build looks for its name.
+# What says in the library and in each program how it was made. bindings/build looks for the name of the library's member.
 MARK = "without_proofs"
 
 
@@ -30,15 +30,23 @@ class Kit:
     def compile(self, source, made, *flags, cwd):
         self.clang(*FLAGS.split(), *flags, source, "-o", made, cwd=cwd)
 
+    def mark(self, flag, work):
+        """Makes the object that says how its program or library was made."""
+        with open(f"{work}/{MARK}.ll", "w", encoding="utf-8") as it:
+            it.write(f'@mk0_{MARK} = constant [{len(SAYS) + 1} x i8] c"{SAYS}\\00"\n')
+        self.compile(f"{MARK}.ll", f"{MARK}.o", flag, cwd=work)
+
     def program(self, module, made):
         """Makes the program `made`, a path, from a module of it."""
         work = os.path.dirname(module)
         self.compile("module.bc", "program.o", "-fPIE", cwd=work)
+        self.mark("-fPIE", work)
         first = [f"{self.tools}/lib/{name}" for name in ("Scrt1.o", "crti.o", "crtbeginS.o")]
         names = "libm.so.6 libc.so.6 libc_nonshared.a ld-linux-x86-64.so.2 libgcc.a libgcc_s.so.1 crtendS.o crtn.o"
         last = [f"{self.tools}/lib/{name}" for name in names.split()]
         own = [f"{self.at}/c/libos_c.a", f"{self.at}/c/liblibc_c.a"]
-        words = [f"{self.tools}/bin/ld.lld", *LINK.split(), "-o", "program", *first, "program.o", *own, *last]
+        parts = ["program.o", f"--undefined=mk0_{MARK}", f"{MARK}.o"]  # the linker leaves out what nothing refers to
+        words = [f"{self.tools}/bin/ld.lld", *LINK.split(), "-o", "program", *first, *parts, *own, *last]
         subprocess.run(words, cwd=work, check=True)
         put(f"{work}/program", made)
 
@@ -50,10 +58,8 @@ class Kit:
             text = public(it.read(), exports)
         with open(f"{work}/library.ll", "w", encoding="utf-8") as it:
             it.write(text)
-        with open(f"{work}/{MARK}.ll", "w", encoding="utf-8") as it:
-            it.write(f'@mk0_{MARK} = constant [{len(SAYS) + 1} x i8] c"{SAYS}\\00"\n')
-        for name in ("library", MARK):
-            self.compile(f"{name}.ll", f"{name}.o", "-fPIC", cwd=work)
+        self.compile("library.ll", "library.o", "-fPIC", cwd=work)
+        self.mark("-fPIC", work)
         archiver = [f"{self.tools}/bin/llvm-ar", "rcs", "library.a", "library.o", f"{MARK}.o"]
         subprocess.run(archiver, cwd=work, check=True)
         put(f"{work}/library.a", made)

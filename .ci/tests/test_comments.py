@@ -1,9 +1,11 @@
-"""Tests of what .ci/documents looks for in comments and edits, on a made-up repository."""
+"""Tests of what .ci/documents looks for in comments, in edits, and in names that documents cite, on made-up repositories."""
 import os
 import sys
 import unittest
 
 sys.path.insert(0, os.path.join(os.path.dirname(os.path.realpath(__file__)), ".."))
+from lookup.cited import faults_of_gone, faults_of_held  # noqa: E402
+from lookup.clauses import Crates  # noqa: E402
 from lookup.comments import faults_of_comments, faults_of_subjects  # noqa: E402
 from lookup.unproved import faults_of_unproved  # noqa: E402
 
@@ -13,7 +15,8 @@ TEXTS = {
     "crates/low/src/lib.rt": "//! Sums.\n//!\n//! The definitions are in `specs/` (`Sum`).\n//!\n//! - `Sum`: sums.\n",
     "crates/low/src/sum.rt": "impl Sum {\n    fn add(self) {}\n}\n",
     "crates/high/src/lib.rt": "//! Uses `Sum` by `specs/Sum.antt`, and `low/src/sum.rt`.\n",
-    "crates/low/must-fail-more/one.edit": "# breaks: Sum.Adds, Sum::add\nfile: src/sum.rt\nold: {}\nnew: {1}\n",
+    "crates/low/must-fail/one.edit": "# breaks: Sum.Adds, Sum::add\nfile: src/sum.rt\nold: {}\nnew: {1}\n",
+    "crates/low/must-fail-more.edits": "# Edits.\n\n== two\n# breaks: Sum::add\nfile: src/sum.rt\nold: {}\nnew: {2}\n",
 }
 
 
@@ -83,13 +86,24 @@ class Comments(unittest.TestCase):
         self.assertEqual([it for it in found if "there is no" in it], missing)
 
     def test_an_edit_without_a_name(self):
-        path = "crates/low/must-fail-more/one.edit"
+        path = "crates/low/must-fail/one.edit"
         self.assertEqual(self.faults(path, "file: src/sum.rt\n"), [f"{path}: no line `# breaks: NAME`"])
         for name in ("Sum.Few", "Total.Adds", "um.Adds", "Sum::take", "take"):
             with self.subTest(name):
                 self.assertEqual(
                     self.faults(path, f"# breaks: {name}\n"), [f"{path}: breaks {name}, which is not there"]
                 )
+
+    def test_an_edit_of_the_second_set_without_a_name(self):
+        """The line `# breaks:` of one is not that of another."""
+        path = "crates/low/must-fail-more.edits"
+        two = "\n== two\n# breaks: Sum.Few\nfile: src/sum.rt\n"
+        for text, fault in (("file: src/sum.rt\n", "no line `# breaks: NAME`"), ("# breaks: take\n", "breaks take")):
+            faults = self.faults(path, f"# Edits.\n\n== one\n{text}{two}")
+            self.assertEqual(
+                [fault.split(", which")[0] for fault in faults],
+                [f"{path}: one: {fault}", f"{path}: two: breaks Sum.Few"],
+            )
 
     def test_cases_without_a_name(self):
         path = "crates/low_tests/data/sums.cases"
@@ -128,6 +142,7 @@ class Unproved(unittest.TestCase):
         texts = {
             "crates/low_one/src/sum_file.rt": "fn of_code() {}\n    // of_rattle\n",
             "crates/low_one/must-fail/one_edit.edit": "old: of_edit\n",
+            "crates/low_one/must-fail-more.edits": "\n== of_more_edits\nold: of_more_edits\n",
             "a_folder/a_page.md": "of_page\n",
             "a_folder/b.mutants": "old: of_mutant\n",
             "a_folder/c.txt": "of_text\n",
@@ -146,7 +161,16 @@ class Unproved(unittest.TestCase):
             "test_made_up",
             "of_python",
         ]
-        nowhere = ["of_rattle", "of_edit", "of_page", "of_mutant", "of_picture", "of_test", "of_comment"]
+        nowhere = [
+            "of_rattle",
+            "of_edit",
+            "of_more_edits",
+            "of_page",
+            "of_mutant",
+            "of_picture",
+            "of_test",
+            "of_comment",
+        ]
         said = f"# {' '.join([*there, 'io_uring_disabled', 'def of_example', *nowhere])} a-of_part b.of_part Of_word\n"
         found = [*faults_of_unproved({**texts, "f.py": f"\n{said}"})]
         wanted = [f"f.py:2: {name} is nowhere but in comments" for name in (*nowhere, "of_part")]
@@ -154,6 +178,67 @@ class Unproved(unittest.TestCase):
 
     def test_a_name_in_a_string_is_no_comment(self):
         self.assertEqual(self.faults("As old_name has it."), [])
+
+
+CITED = {
+    "crates/low/specs/Sum.antt": "-- Sums.\nuse Rattle.std.specs.Prelude.{Few}\n\n-- it adds\nabbrev pub Adds : Type 0\nAdds = Few\n",
+    "crates/low/src/sum.rt": "impl<A> Sum<A> {\n    /// Not Total.\n    pub fn add(self)\n        ensures kept { Adds }\n    {\n"
+    "        body\n    }\n\n    pub fn take(self) {}\n\n    fn own(self) {}\n}\n",
+    "crates/low_laws/src/sums.rt": "pub fn sums_add_up()\n    ensures { Adds }\n{}\n",
+}
+
+
+class Held(unittest.TestCase):
+    def faults_of(self, line):
+        crates = Crates(CITED, ["low", "low_laws"])
+        return [fault.removeprefix("D:7: ") for fault in faults_of_held("D", [(7, line)], crates)]
+
+    def test_what_is_there(self):
+        for line in (
+            "`Sum.Adds` in `Sum.antt`, by `Sum::add` (`kept`) and `sums::sums_add_up`",
+            "`Sum::add` (`low`), `Sum::Variant`, `Other::add`, `Other.add`",
+            "`Sum::own`, which is private",
+        ):
+            with self.subTest(line):
+                self.assertEqual(self.faults_of(line), [])
+
+    def test_what_is_not_there(self):
+        for line, fault in (
+            ("`Sum.Total`", "Sum defines no Total"),
+            ("`Sum::count`", "Sum has no count"),
+            ("`sums::sums_are_few`", "sums has no sums_are_few"),
+            ("`Sum::add` (`kept`, `lost`)", "the contract of Sum::add has no lost"),
+            ("`Sum::add` (`body`)", "the contract of Sum::add has no body"),
+        ):
+            with self.subTest(line):
+                self.assertEqual(self.faults_of(line), [fault])
+
+
+OTHERS = {
+    "mount/src/tables.c": "static int find_row(int at)\n{\n\treturn old_row(at);\n}\n",
+    "bindings/python/client.py": "class Client:\n    def read_all(self):\n        pass\n",
+    "crates/low/proofs/first_steps/Answers.antt": "",
+    "evidence/bench/plain/engine.rs": "fn count_rows() {}\n",
+}
+
+
+class Gone(unittest.TestCase):
+    def faults_of(self, line):
+        crates = Crates(CITED, ["low", "low_laws"])
+        return [fault.removeprefix("D:7: ") for fault in faults_of_gone("D", [(7, line)], {**CITED, **OTHERS}, crates)]
+
+    def test_what_is_there(self):
+        for line in (
+            "`sums_add_up`, `find_row`, `read_all`, `first_steps`, `low_laws`, `Sum.Adds`, `Client.read_all`",
+            "other words: `gone`, `OLD_ROW`, `mk_..`, `old_row(1)`, count_rows, `Gone::name`, `low.Gone`, `sum.rt`",
+        ):
+            with self.subTest(line):
+                self.assertEqual(self.faults_of(line), [])
+
+    def test_what_is_gone(self):
+        for name in ("old_row", "count_rows", "lost_step", "Sum.add", "Refusals.counted", "Table.find_row"):
+            with self.subTest(name):
+                self.assertEqual(self.faults_of(f"`find_row` and `{name}`"), [f"nothing defines {name}"])
 
 
 if __name__ == "__main__":

@@ -118,9 +118,9 @@ class Debs(unittest.TestCase):
     def setUp(self):
         self.top = tempfile.mkdtemp()
         self.addCleanup(shutil.rmtree, self.top)
-        for path in (".ci/debs", ".ci/date", "LICENSE-MIT"):
+        for path in (".ci/debs", "LICENSE-MIT"):
             self.write(path, self.text(f"{TOP}/{path}"), 0o755)
-        says = 'case "$*" in soname) echo libmakhloeum.so.7 ;; date) echo 2026-03-04 ;; "") echo 7.8.9 ;; esac'
+        says = 'case "$*" in soname) echo libmakhloeum.so.7 ;; seconds) echo 1772582400 ;; "") echo 7.8.9 ;; esac'
         self.write("bindings/version", f"#!/bin/sh\n{says}\n", 0o755)
         for name, script in TOOLS.items():
             self.write(f"tools/{name}", f"#!/bin/sh\n{script}\n", 0o755)

@@ -297,9 +297,9 @@ class All(MadeUp):
             ("README.md", True),
             ("CONTRIBUTING.md", True),
             ("docs/RECIPES.md", True),
-            ("RELEASE.md", False),
             ("docs/FAILURES.md", False),
             ("docs/RELEASES.md", False),
+            ("RELEASE.md", False),
             ("docs/MOUNT.md", None),
         ):
             before = self.read(page) if os.path.exists(f"{self.top}/{page}") else "A page.\n"

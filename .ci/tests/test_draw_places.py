@@ -60,7 +60,7 @@ OTHERS = (
         "tests/a.c",
         "a/tests/b.py",
         "below/mutants/a.c",
-        "a/seeds/a.c",
+        "a/fuzz/a.c",
         "a/examples/a.c",
         "crates/a/a.c",
         "a/one_test.go",

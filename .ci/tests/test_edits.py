@@ -8,6 +8,8 @@ from unittest import mock
 from scripts import MadeUp, load
 
 edits = load(".ci/edits")
+from lookup.edits import HEAD  # noqa: E402
+
 lines_of, version = edits.lines_of, edits.version
 
 
@@ -22,6 +24,7 @@ class Edits(MadeUp):
         self.patch("version", lambda: self.kit)
         self.patch("lines_of", lambda command: self.rt(command).stdout.splitlines(True))
         self.kit, self.calls, self.takes_names = "kit-1", [], True
+        self.second = {}
         self.write(
             "crates.txt",
             "# Crates.\nlow: smallvec\nsnzi_tree: low\nsessions may_wait=2: snzi_tree std_io\ndocs_only: low\n",
@@ -56,7 +59,19 @@ class Edits(MadeUp):
         return subprocess.CompletedProcess(command, 0, "\n".join([*lines, "1 passed, 0 failed\n"]))
 
     def edit(self, crate, folder, name, old="right", new="wrong"):
-        self.write(f"crates/{crate}/{folder}/{name}.edit", f"file: src/lib.rt\nold: {old}\nnew: {new}\n")
+        """Writes an edit of the first or the second set."""
+        text = f"file: src/lib.rt\nold: {old}\nnew: {new}\n"
+        if folder == "must-fail":
+            self.write(f"crates/{crate}/must-fail/{name}.edit", text)
+        else:
+            self.more(crate, name, text)
+
+    def more(self, crate, name, text):
+        """Writes an edit of the second set, in the place of one of that name; without a text it is removed."""
+        of_crate = self.second.setdefault(crate, {})
+        of_crate[name] = text
+        blocks = (f"\n== {name}\n{text}" for name, text in sorted(of_crate.items()) if text)
+        self.write(f"crates/{crate}/must-fail-more.edits", "".join((f"{HEAD}\n", *blocks)))
 
     def names(self, *words):
         return [line for line in self.run_with(*words) if line]
@@ -96,7 +111,8 @@ class Edits(MadeUp):
 
     def test_a_changed_edit_is_due_and_a_moved_one_is_not(self):
         self.run_with()
-        os.rename(f"{self.top}/crates/snzi_tree/must-fail/b.edit", f"{self.top}/crates/snzi_tree/must-fail-more/b.edit")
+        self.more("snzi_tree", "b", self.read("crates/snzi_tree/must-fail/b.edit"))
+        os.remove(f"{self.top}/crates/snzi_tree/must-fail/b.edit")
         self.assertEqual(self.names("--due"), [])
         self.edit("sessions", "must-fail-more", "d", new="also wrong")
         self.assertEqual(self.names("--due"), ["sessions"])
@@ -126,8 +142,7 @@ class Edits(MadeUp):
 
     def test_a_comment_in_an_edit_makes_nothing_due(self):
         self.land()
-        text = self.read("crates/low/must-fail-more/a.edit")
-        self.write("crates/low/must-fail-more/a.edit", "# breaks: a clause\n" + text)
+        self.more("low", "a", "# breaks: a clause\n" + self.second["low"]["a"])
         self.assertEqual(self.names("--due"), [])
 
     def test_a_comment_in_a_source_makes_nothing_due(self):
@@ -142,7 +157,7 @@ class Edits(MadeUp):
         self.edit("low", "must-fail-more", "old")
         self.land()
         self.assertIn("low/old.edit", self.read("passed"))
-        os.remove(f"{self.top}/crates/low/must-fail-more/old.edit")
+        self.more("low", "old", None)
         self.land()
         self.assertNotIn("low/old.edit", self.read("passed"))
 
@@ -227,7 +242,7 @@ class Edits(MadeUp):
 
     def test_an_edit_without_a_file_or_an_old_text_fails(self):
         for text in ("old: right\nnew: wrong\n", "file: src/lib.rt\nnew: wrong\n"):
-            self.write("crates/low/must-fail-more/e.edit", text)
+            self.more("low", "e", text)
             why = "edits: low/e.edit can't be applied: a new: line before file: and old:"
             self.assertEqual(self.run_with("--check", status=1), [why])
         for text, why in (
@@ -235,8 +250,40 @@ class Edits(MadeUp):
             ("file: src/gone.rt\nold: right\nnew: wrong\n", "there is no src/gone.rt"),
             ("file: src/lib.rt\nold: right\nnew: a\nnew: b\n", "a new: line before file: and old:"),
         ):
-            self.write("crates/low/must-fail-more/e.edit", text)
+            self.more("low", "e", text)
             self.assertEqual(self.run_with("--check", status=1), [f"edits: low/e.edit can't be applied: {why}"])
+
+    def test_an_edit_is_laid_as_it_is_in_the_second_set(self):
+        text = "# breaks: One.two\nfile: src/lib.rt\nold: right\nnew:  wrong: == \n"
+        self.more("low", "b", text)
+        self.run_with("--lay")
+        self.assertEqual(self.read("crates/low/must-fail/second-set-b.edit"), text)
+
+    def test_a_second_set_in_another_form_fails(self):
+        place, block = "crates/low/must-fail-more.edits", "\n== {}\nfile: src/lib.rt\nold: right\nnew: wrong\n"
+        a, b = block.format("a"), block.format("b")
+        sorted_names = "its edits are not sorted by their names, each of which is there once"
+        blank_line = "there is a blank line in an edit, or not one before its name"
+        for text, fault in (
+            (f"# Edits.\n{a}", f"its first line is not: {HEAD}"),
+            (f"{HEAD}\n", "it has no edit"),
+            (f"{HEAD}\n# more\n{a}", "something is between its first line and its first edit"),
+            (f"{HEAD}\n{block.format('A')}", "the name A is not made of lower-case words and underscores"),
+            (f"{HEAD}\n{b}{a}", sorted_names),
+            (f"{HEAD}\n{a}{a}", sorted_names),
+            (f"{HEAD}\n{a}{b[1:]}", blank_line),
+            (f"{HEAD}\n{a}\n", blank_line),
+            (f"{HEAD}\n{a[:-1]}", "it does not end with a line feed"),
+        ):
+            self.write(place, text)
+            self.assertEqual(self.run_with("--check", status=1), [f"edits: {place}: {fault}"])
+        self.write(place, f"{HEAD}\n{a}{b}")
+        self.assertEqual(self.run_with("--check"), [])
+
+    def test_a_folder_in_the_place_of_a_second_set_fails(self):
+        self.write("crates/low/must-fail-more/new.edit", "file: src/lib.rt\nold: right\nnew: wrong\n")
+        said = "edits: crates/low/must-fail-more/ is not read: write its edits into crates/low/must-fail-more.edits"
+        self.assertEqual(self.run_with("--check", status=1), [said])
 
     def test_an_edit_of_both_sets_fails(self):
         self.edit("snzi_tree", "must-fail", "c")
@@ -250,7 +297,7 @@ class Edits(MadeUp):
             ("src/two.rt", "{ right", "wrong"),
             ("src/two.rt", "{ right", "wrong too"),
         ):
-            self.write("crates/low/must-fail-more/a.edit", f"file: {path}\nold: {old}\nnew: {new}\n")
+            self.more("low", "a", f"file: {path}\nold: {old}\nnew: {new}\n")
             self.assertEqual(self.names("--due")[:1], ["low"], (path, old, new))
             self.run_with("low")
             self.assertNotIn("low", self.names("--due"))
@@ -295,10 +342,7 @@ class Edits(MadeUp):
             ("new:  wrong", "{  wrong }"),
             ("new:", "{  }"),
         ):
-            self.write(
-                "crates/low/must-fail-more/e.edit",
-                f"file: src/lib.rt\nold: right\n{new}\nold: {old}\nnew: more wrong\n",
-            )
+            self.more("low", "e", f"file: src/lib.rt\nold: right\n{new}\nold: {old}\nnew: more wrong\n")
             self.assertEqual(self.run_with("--check"), [], new)
 
     def test_an_edit_that_the_kit_calls_bad_is_not_noted(self):

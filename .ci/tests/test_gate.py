@@ -390,30 +390,32 @@ class Quick(Gates):
 
 class AllUnproved(Gates):
     FIRST = (
-        "try",
+        "try --tests",
         ".ci/documents",
         ".ci/laws",
         "completion/generate --check",
         ".ci/edits --check",
         ".ci/mutants --check",
+        ".ci/style",
     )
-    NEXT = (".ci/style", ".ci/unproved --crates")
-    BUILT = ("evidence/compare", "evidence/bench/bench --quick", ".ci/shell/run", ".ci/refused/run", "evidence/sizes")
-    LAST = (".ci/promised", "bindings/test", "look/test", "look/test-check", "mount/test")
+    CRATES = ".ci/unproved --crates"
+    BUILT = (
+        *(".ci/promised", "bindings/test", "look/test", "look/test-check", "evidence/compare"),
+        *("evidence/bench/bench --quick", ".ci/shell/run", ".ci/refused/run", "evidence/sizes"),
+    )
 
     def test_all_parts_run(self):
         status, lines = self.played(".ci/all-unproved")
         calls = self.calls()
         self.assertEqual(status, 0, lines)
-        ends = [len(self.FIRST), len(self.FIRST + self.NEXT + self.BUILT)]
-        self.assertEqual(sorted(calls[: ends[0]]), sorted(self.FIRST))
-        self.assertEqual(sorted(calls[ends[0] : ends[1]]), sorted(self.NEXT + self.BUILT))
-        self.assertEqual(sorted(calls[ends[1] :]), sorted(self.LAST))
+        first = len(self.FIRST)
+        self.assertEqual(sorted(calls[:first]), sorted(self.FIRST))
+        self.assertEqual(sorted(calls[first:-1]), sorted([self.CRATES, *self.BUILT]))
         self.assertEqual(calls[-1], "mount/test", "it runs alone")
         self.assertEqual(lines[-1], f"{len(calls)} passed, 0 failed")
         self.assertIn("  the proofs, and the edits that the prover refuses: skipped, .ci/run has them", lines)
         more = {
-            "all that is tested, built without proofs": "try",
+            "all that is tested, built without proofs": "try --tests",
             "the completions": "completion/generate --check",
             "each crate": ".ci/unproved --crates",
             "the benchmark's answers": "evidence/bench/bench --quick",
@@ -423,7 +425,7 @@ class AllUnproved(Gates):
     def test_it_ends_by_a_signal(self):
         for number, status in ENDS:
             self.assertEqual(self.stopped(".ci/all-unproved", "try", number), status)
-            self.assertNotIn(".ci/style", self.calls())
+            self.assertNotIn(self.CRATES, self.calls())
 
     def test_parts_that_may_hang_have_an_end(self):
         wanted = {"look/test-check": ["-k", "60", "1200"], "mount/test": ["-k", "60", "1800"]}
@@ -433,7 +435,7 @@ class AllUnproved(Gates):
         self.comes_to("try", 1)
         status, lines = self.played(".ci/all-unproved")
         self.assertEqual((status, lines[-2]), (1, "what failed: all that is tested, built without proofs"))
-        self.assertEqual(sorted(self.calls()), sorted(self.FIRST + self.NEXT))
+        self.assertEqual(sorted(self.calls()), sorted([*self.FIRST, self.CRATES]))
         self.assertIn("  the programs, the library and the mount: skipped, ./try failed", lines)
 
     def test_packages_are_installed_only_if_asked(self):

@@ -41,7 +41,6 @@ pub fn counts_are_small()
 
 class Laws(MadeUp):
     program = laws
-    places = {"LEFT": ".ci/lookup/without-laws"}
 
     def setUp(self):
         super().setUp()
@@ -85,16 +84,6 @@ class Laws(MadeUp):
         for crate in ("low_tests", "test_desk"):
             self.write(f"crates/{crate}/src/desk.rt", DESK)
         self.assertEqual(self.run_with(), [])
-
-    def test_a_definition_on_the_list_needs_no_law_yet(self):
-        self.write(".ci/lookup/without-laws", "# none yet\n\nlow Count.count\n\n")
-        self.assertEqual(self.run_with(), [])
-
-    def test_a_definition_with_a_law_comes_off_the_list(self):
-        self.write("crates/low_laws/src/counts.rt", LAW)
-        self.write(".ci/lookup/without-laws", "low Count.count\nlow Count.gone\n")
-        off = "take it off .ci/lookup/without-laws: it has a law, or no public clause cites it"
-        self.assertEqual(self.run_with(status=1), [f"low Count.count: {off}", f"low Count.gone: {off}"])
 
     def test_an_argument_is_refused(self):
         self.said("low", status=2)

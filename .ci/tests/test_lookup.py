@@ -6,7 +6,7 @@ import unittest
 TOP = os.path.dirname(os.path.dirname(os.path.dirname(os.path.realpath(__file__))))
 sys.dont_write_bytecode = True
 sys.path.insert(0, os.path.join(TOP, ".ci"))
-from lookup import code, definitions, folders, objects, receivers, screen, words  # noqa: E402
+from lookup import code, definitions, edits, folders, objects, receivers, screen, words  # noqa: E402
 
 TREE = """pub trait Walk {
     fn step(&self) -> u64;
@@ -452,17 +452,29 @@ class Edits(unittest.TestCase):
             "crates/a/src/lib.rt": "fn first() { 1 }\nfn second() { 2 }\nfn third() {\n    3\n}\n",
             "crates/b/src/lib.rt": "fn other() { 1 }\n",
             "crates/a/must-fail/x.edit": "file: src/lib.rt\nold: { 2 }\nnew: { 1 }\nold:     3\nnew:     1\n",
-            "crates/a/must-fail/y.edit": "# breaks: Step.limit_met\nfile: src/lib.rt\nold: { 1 }\nnew: { 2 }\n",
-            "crates/a/must-fail/z.edit": "file: src/lib.rt\nold: { 9 }\nnew: { 1 }\n",
+            "crates/a/must-fail-more.edits": "# Edits.\n\n== y\n# breaks: Step.limit_met\nfile: src/lib.rt\nold: { 1 }\n"
+            "new: { 2 }\n\n== z\nfile: src/lib.rt\nold: { 9 }\nnew: { 1 }\n",
         }
+        found = {edit.name: edit for path, text in texts.items() for edit in edits.edits_of(path, text)}
+        self.assertEqual(
+            [(edit.label, edit.line) for edit in found.values()], [("a/x.edit", 1), ("a/y.edit", 3), ("a/z.edit", 9)]
+        )
         for name, functions, said in (
             ("x", ["second", "third"], ["second", "third"]),
             ("y", ["first"], ["Step.limit_met"]),
             ("z", [], ["no function"]),
         ):
-            path = f"crates/a/must-fail/{name}.edit"
-            self.assertEqual(code.broken_by(path, texts), [("crates/a/src/lib.rt", it) for it in functions])
-            self.assertEqual(code.named_by(path, texts), said)
+            broken = edits.broken_by(found[name], texts)
+            self.assertEqual(broken, [("crates/a/src/lib.rt", it) for it in functions])
+            self.assertEqual(edits.named_by(found[name], texts), said)
+
+    def test_the_edit_of_a_line(self):
+        path, text = "crates/a/must-fail-more.edits", "# Edits.\n\n== y\nold: 1\n\n== z\nold: 9\nnew: 1\n"
+        found = [edits.edit_at(path, text, number) for number in range(1, 9)]
+        self.assertEqual([edit and edit.name for edit in found], [None, None, "y", "y", "y", "z", "z", "z"])
+        self.assertEqual([edit.text for edit in dict.fromkeys(found[2:])], ["old: 1\n", "old: 9\nnew: 1\n"])
+        self.assertEqual(edits.edit_at("crates/a/must-fail/x.edit", "old: 1\n", 1).name, "x")
+        self.assertIsNone(edits.edit_at("crates/a/src/lib.rt", text, 3))
 
 
 class Functions(unittest.TestCase):
@@ -492,6 +504,7 @@ class Parts(unittest.TestCase):
             ("docs/MOUNT.md", "", "documents"),
             ("man/makhloeum.1", "", "documents"),
             ("crates/a/must-fail/x.edit", "old: x", "edits"),
+            ("crates/a/must-fail-more.edits", "old: x", "edits"),
             ("mount/mutants/a.c.mutants", "", "mutants"),
             ("evidence/linux-6.12/rows.recorded", "", "recordings"),
             ("evidence/linux-6.12/kernel/config", "", "recordings"),

@@ -117,8 +117,9 @@ class Meanings(unittest.TestCase):
         "crates/low/proofs/Ones.antt": "use Rattle.low.specs.One as one\nuse Rattle.low.specs.Two as two\nx = one.told\ny = two.told\n",
         "crates/low/proofs/Named.antt": "use Rattle.low.specs.One.{told as other}\nuse Rattle.low.specs.Two.{told}\nx = told\n",
         "crates/low/proofs/Whole.antt": "use Rattle.low.specs.One\nx = One.told\ny = Two.told\n",
-        "crates/low/must-fail-more/a.edit": "# breaks: One.told\nfile: src/one.rt\nold: told\nnew: tell\n",
-        "crates/low/must-fail-more/b.edit": "# breaks: Two.told\nfile: src/two.rt\nold: told\nnew: tell\n",
+        "crates/low/must-fail/a.edit": "# breaks: One.told\nfile: src/one.rt\nold: told\nnew: tell\n",
+        "crates/low/must-fail-more.edits": "\n== b\n# breaks: Two.told\nfile: src/two.rt\nold: told\nnew: tell\n\n"
+        "== c\n# breaks: One.told\nfile: src/one.rt\nold: told\nnew: tells\n",
         "crates/low_tests/data/a.cases": "# shows: One.told\ntold 1\n",
         "docs/reference/low.md": "| `told` | one |\n",
         "docs/A.md": "`One.told`, `Two.told`\n`Two.told`\nAs told.\n",
@@ -142,7 +143,7 @@ class Meanings(unittest.TestCase):
                     "crates/low/proofs/Named.antt": [1],
                     "crates/low/proofs/Whole.antt": [2],
                 },
-                "edits": {"crates/low/must-fail-more/a.edit": [1, 3]},
+                "edits": {"crates/low/must-fail/a.edit": [1, 3], "crates/low/must-fail-more.edits": [9, 11]},
                 "tests": {"crates/low_tests/data/a.cases": [1]},
                 "documents": {"docs/A.md": [1], "docs/reference/low.md": [1]},
                 "perhaps": {
@@ -158,7 +159,7 @@ class Meanings(unittest.TestCase):
         found = self.hits("Two.told")
         self.assertEqual(found["clauses"], {"crates/low/src/two.rt": [1, 4]})
         self.assertEqual(found["code"], {"crates/low/src/none.rt": [4]})
-        self.assertEqual(found["edits"], {"crates/low/must-fail-more/b.edit": [1, 3]})
+        self.assertEqual(found["edits"], {"crates/low/must-fail-more.edits": [3, 5]})
         self.assertEqual(found["documents"]["docs/A.md"], [1, 2])
         proofs = {"Ones.antt": [4], "Named.antt": [2, 3], "Whole.antt": [3]}
         self.assertEqual(found["proofs"], {f"crates/low/proofs/{name}": lines for name, lines in proofs.items()})
@@ -173,6 +174,40 @@ class Meanings(unittest.TestCase):
         lines = sum(len(at) for paths in self.hits("told").values() for at in paths.values())
         words = sum(len(re.findall(r".*\btold\b", text)) for text in self.TEXTS.values())
         self.assertEqual(lines, words)
+
+
+class OfThisRepository(unittest.TestCase):
+    @classmethod
+    def setUpClass(cls):
+        cls.texts = where.repository()
+
+    def test_each_clause_of_the_crates_is_of_one_contract(self):
+        """A clause of a function stands four columns right of it; one of a closure, in a body, stands further right."""
+        seen = 0
+        for path in (path for path in self.texts if re.match(r"crates/\w+/src/.*\.rt$", path)):
+            lines, found, wanted, column = self.texts[path].split("\n"), [], [], None
+            for at, line in enumerate(lines):
+                if clauses.FUNCTION.match(line):
+                    column = len(line) - len(line.lstrip()) + 4
+                    found += [it for it in range(at, clauses.contract_end(lines, at)) if self.is_clause(lines[it])]
+                elif self.is_clause(line) and len(line) - len(line.lstrip()) == column:
+                    wanted.append(at)
+            self.assertEqual(found, wanted, path)
+            seen += len(found)
+        self.assertGreater(seen, 2000)
+
+    @staticmethod
+    def is_clause(line):
+        return line.lstrip().startswith(("requires", "ensures"))
+
+    def test_the_shell_s_status_is_not_the_replay_s(self):
+        hits = where.Search("Program.status_of", self.texts).hits
+        crates = {
+            path.split("/")[1]
+            for part in ("code", "clauses", "specs", "laws", "proofs", "edits")
+            for path in hits[part]
+        }
+        self.assertEqual(crates, {"shell_laws", "shell_main"})
 
 
 class Mutants(unittest.TestCase):

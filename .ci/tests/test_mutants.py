@@ -26,7 +26,7 @@ alone) sleep "1000.$(cat pid)" &
 one) if grep -q 'first right' mount/src/a.c; then echo '1 passed, 0 failed'; else echo '0 passed, 1 failed'; exit 1; fi ;;
 bad) echo '0 passed, 1 failed'; exit 1 ;;
 hangs) grep -q 'first right' mount/src/a.c || sleep 600; echo '1 passed, 0 failed' ;;
-built) if [ -e bindings/out/it ] && [ -e bindings/go/libmakhloeum.a ] && [ -e crates/low/it ]; then echo '1 passed, 0 failed'; else echo '0 passed, 1 failed'; fi ;;
+built) if [ -e bindings/out/it ] && [ -e bindings/go/libmakhloeum.a ] && [ -e crates/low/out/it ] && [ "$(find crates -type f)" = crates/low/src/lib.rt ]; then echo '1 passed, 0 failed'; else echo '0 passed, 1 failed'; fi ;;
 *) echo '0 passed, 0 failed' ;;
 esac
 """
@@ -331,8 +331,9 @@ class Mutants(MadeUp):
     def test_a_test_has_what_was_built_and_the_crates(self):
         self.write(".gitignore", "out/\n*.a\n")
         self.write("bindings/go/a.go", "package a\n")
-        for path in ("bindings/out/it", "bindings/go/libmakhloeum.a", "crates/low/it", "mount/tests/built.py"):
+        for path in ("bindings/out/it", "bindings/go/libmakhloeum.a", "crates/low/out/it", "crates/low/src/lib.rt"):
             self.write(path, "")
+        self.write("mount/tests/built.py", "")
         self.mutant("a", test="built")
         self.assertIn("mutants: mount/a: NOT CAUGHT by built", self.run_with(status=1))
 

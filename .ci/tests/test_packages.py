@@ -46,7 +46,7 @@ class Packages(unittest.TestCase):
 
     def wheel(self, *versions):
         """What bindings/wheel does of a library that needs these versions of glibc: its status and message."""
-        self.copy("bindings/wheel", "bindings/package", "bindings/version", "bindings/c/makhloeum.h", ".ci/date")
+        self.copy("bindings/wheel", "bindings/package", "bindings/version", "bindings/c/makhloeum.h")
         self.copy("LICENSE-MIT", "LICENSE-APACHE")
         for name in ("pyproject.toml", "setup.py", "README.md", "makhloeum_pytest.py", "makhloeum/__init__.py"):
             self.write(f"bindings/python/{name}", "")
@@ -140,7 +140,9 @@ class Packages(unittest.TestCase):
         self.assertEqual(self.run_it("bindings/version"), (0, "12.0.345\n", ""))
         self.assertEqual(self.run_it("bindings/version", "soname"), (0, "libmakhloeum.so.12\n", ""))
         self.assertEqual(self.run_it("bindings/version", "date"), (0, "2026-03-04\n", ""))
-        self.assertEqual(self.run_it("bindings/version", "x"), (2, "", "usage: bindings/version [soname | date]\n"))
+        self.assertEqual(
+            self.run_it("bindings/version", "x"), (2, "", "usage: bindings/version [soname | date | seconds]\n")
+        )
 
     def test_the_changelog_has_the_version_and_its_date_first(self):
         version, date = (self.run_it(f"{TOP}/bindings/version", *words)[1].strip() for words in ((), ("date",)))
@@ -308,14 +310,13 @@ class Packages(unittest.TestCase):
         self.copy(
             ".ci/dist",
             ".ci/proved",
-            ".ci/date",
             "LICENSE-MIT",
             "LICENSE-APACHE",
             "install",
             "uninstall",
         )
         self.write("CHANGELOG.md", "# Changelog\n\n## 1.2.3, 2026-03-04\n\n- a\n\n## 1.2.2, 2026-03-01\n\n- b\n")
-        self.write("bindings/version", '#!/bin/sh\n[ "${1:-}" = date ] && echo 2026-03-04 || echo 1.2.3\n', 0o755)
+        self.write("bindings/version", '#!/bin/sh\n[ "${1:-}" = seconds ] && echo 1772582400 || echo 1.2.3\n', 0o755)
         tree = 'for it in bin lib share/doc/makhloeum share/makhloeum/go; do mkdir -p "$1/$it"; done; cp said "$1/bin/tool"'
         self.write(".ci/tree", f"#!/bin/sh\n{tree}\n", 0o755)
         self.write(".ci/debs", '#!/bin/sh\necho a package >"$2/a.deb"\n', 0o755)
@@ -350,12 +351,12 @@ class Packages(unittest.TestCase):
         self.assertEqual(self.read("out/release-notes.md"), "## 1.2.3, 2026-03-04\n\n- a\n\n")
 
     def test_the_date_is_that_of_the_version(self):
-        self.copy(".ci/date", "bindings/version")
+        self.copy("bindings/version")
         self.write(
             "bindings/c/makhloeum.h", "/* The version.\n   Its date is 2026-03-04. */\n   Its date is 2026-03-04.\n"
         )
         for zone in ("UTC", "Pacific/Kiritimati", "America/Anchorage"):
-            self.assertEqual(self.run_it(".ci/date", TZ=zone), (0, "1772582400\n", ""))
+            self.assertEqual(self.run_it("bindings/version", "seconds", TZ=zone), (0, "1772582400\n", ""))
 
 
 if __name__ == "__main__":

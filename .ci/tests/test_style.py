@@ -1,7 +1,9 @@
-"""Tests of .ci/style in a made-up repository, with scripts in place of the tools."""
+"""Tests of .ci/style in a made-up repository, with scripts in place of the tools; and that the Python programs of .ci end with a status."""
+import ast
 import os
 import shutil
 import subprocess
+import sys
 import tempfile
 import unittest
 
@@ -107,6 +109,28 @@ class Style(unittest.TestCase):
     def test_it_writes_the_forms(self):
         calls = ["clang-format -i a.c a.h", "black -q b.py program", "gofmt -w d.go"]
         self.assertEqual(self.style("--write"), (0, [], calls))
+
+
+class Programs(unittest.TestCase):
+    def test_the_status_is_that_of_main(self):
+        """What a program does as such is its last statement; a function stands in for its main."""
+        names = [os.path.join(folder, name) for folder, _, files in os.walk(f"{TOP}/.ci") for name in sorted(files)]
+        tried = []
+        for name in names:
+            with open(name, encoding="utf-8", errors="replace") as it:
+                text = it.read()
+            if not text.startswith("#!/usr/bin/env python3") or "\ndef main(" not in text:
+                continue
+            tried.append(name)
+            program = ast.Module([ast.parse(text).body[-1]], [])
+            for status in (0, 7):
+                with self.assertRaises(SystemExit, msg=name) as ended:
+                    exec(
+                        compile(program, name, "exec"), {"__name__": "__main__", "sys": sys, "main": lambda *_: status}
+                    )
+                self.assertEqual(ended.exception.code, status, name)
+        self.assertIn(f"{TOP}/.ci/documents", tried)
+        self.assertGreaterEqual(len(tried), 8)
 
 
 if __name__ == "__main__":

@@ -54,6 +54,13 @@ class Unproved(MadeUp):
         calls = sorted(self.read("calls").splitlines()) if os.path.exists(f"{self.top}/calls") else []
         return calls, lines
 
+    def test_the_highest_crates_begin_first(self):
+        """They take longest."""
+        with mock.patch.object(os, "sched_getaffinity", lambda _: {0}):
+            self.tried("--crates")
+        begun = [call.split()[0] for call in self.read("calls").splitlines()]
+        self.assertEqual(begun, ["program", "beside", "high", "low"])
+
     def test_a_crate_that_changed_is_tried_with_those_above(self):
         self.write("crates/low/src/lib.rt", f"{TEST}// more\n")
         calls, lines = self.tried()
@@ -70,7 +77,7 @@ class Unproved(MadeUp):
         self.assertEqual(self.tried("HEAD"), ([], [self.tried("HEAD")[1][0], "0 passed, 0 failed"]))
 
     def test_definitions_proofs_and_edits_change_no_test(self):
-        for name in ("specs/a.antt", "proofs/a.antt", "must-fail-more/a.edit"):
+        for name in ("specs/a.antt", "proofs/a.antt", "must-fail-more.edits"):
             self.write(f"crates/low/{name}", "")
         self.assertEqual(self.tried()[0], [])
         self.write("crates/high/src/new.rt", "")

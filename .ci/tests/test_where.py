@@ -17,7 +17,7 @@ loader = importlib.machinery.SourceFileLoader("where", os.path.join(TOP, "where"
 where = importlib.util.module_from_spec(importlib.util.spec_from_loader("where", loader))
 sys.dont_write_bytecode = True
 loader.exec_module(where)
-from lookup import mutants, names, receivers, screen, words  # noqa: E402
+from lookup import edits, mutants, names, receivers, screen, words  # noqa: E402
 
 NAMES = (
     "pids.peak",
@@ -43,12 +43,12 @@ def listed_in(screen):
     """The files and the folders that a screen lists, with the folder crates/ left out."""
     files, folders = set(), set()
     for entry in (entry for line in screen for entry in line[where.LABEL :].split("; ")):
-        counted = re.fullmatch(r"(\S+)/ \d+ (?:files|mutants)", entry)
+        counted = re.fullmatch(r"(\S+)/ \d+ (?:files|mutants|edits?)", entry)
         of_mutant = re.fullmatch(r"(\w+)/.* \((\S+):[\d,]+\)", entry)
         if counted:
             folders.add(os.path.normpath(counted[1]))
-        elif re.match(r"\d+ files in ", entry):
-            folders.update(entry.split(" files in ")[1].split(", "))
+        elif re.match(r"\d+ (files|edits) in ", entry):
+            folders.update(re.split(" (?:files|edits) in ", entry)[1].split(", "))
         elif of_mutant:
             files.add(f"{of_mutant[1]}/mutants/{of_mutant[2]}")
         elif "/ " in entry:
@@ -89,10 +89,11 @@ class OfThisRepository(unittest.TestCase):
                 if word not in text or not pattern.search(text):
                     continue
                 short = path.removeprefix("crates/")
-                edit = f"{short.split('/')[0]}/{os.path.basename(path).removesuffix('.edit')} ("
+                of_path = [it for it in edits.edits_of(path, text) if pattern.search(f"== {it.name}\n{it.text}")]
+                is_edit = of_path and all(f"{it.crate}/{it.name} (" in whole for it in of_path)
                 is_mutant = any(f"{path.split('/')[0]}/{it.name}" in files for it in mutants.blocks(text))
                 with self.subTest(name, path=path):
-                    is_listed = short in files or above(path) & folders or edit in whole or is_mutant
+                    is_listed = short in files or above(path) & folders or is_edit or is_mutant
                     self.assertTrue(is_listed, whole)
 
     def test_every_line_that_a_search_by_hand_finds_has_the_name_or_a_longer_word(self):
@@ -227,11 +228,6 @@ class OfThisRepository(unittest.TestCase):
         for name in ("user notification", "stays proved", "Fedora", "race", "kill -9", "fork bomb", "seccomp"):
             said = where.Search(name, self.texts).screen()
             self.assertTrue([line for line in said if line.startswith("  here this is called: ")], name)
-        for name in ("deb", "rpm", "install", "FEDORA"):
-            self.assertTrue(words.called_here(name), name)
-        self.assertEqual(words.called_here("fedoras"), [])
-        self.assertEqual(words.called_here("Transport endpoint is not connected"), ["ENOTCONN"])
-        self.assertEqual(words.called_here("no such process"), ["ESRCH"])
 
     def test_a_message_of_a_check_that_fails_leads_to_what_to_do(self):
         for message in (
@@ -277,6 +273,11 @@ class OfThisRepository(unittest.TestCase):
             ],
         )
 
+    def test_the_first_line_of_edits_is_in_no_crate(self):
+        """It is the same in each."""
+        listed = where.Search("edits.py", self.texts).hits["edits"]
+        self.assertEqual(listed, {})
+
     def test_a_number_with_separators(self):
         self.assertEqual(self.searches["1024"].names, ["1024", "1,024", "1_024", "SLOTS"])
 
@@ -292,8 +293,9 @@ class OfAMadeUpRepository(unittest.TestCase):
         "crates/low/specs/Sum.antt": "-- A sum.\nabbrev pub Adds : Type 0\nAdds = IsFew\n",
         "crates/low/src/sum.rt": "ghost use Rattle.low.specs.Sum.{Adds};\n\nimpl Sum {\n    pub fn add(self)\n"
         "        ensures { Adds }\n    {\n        wrong\n    }\n\n    fn other(self) {\n        self.add()\n    }\n}\n",
-        "crates/low/must-fail-more/one.edit": "file: src/sum.rt\nold: wrong\nnew: right\n",
-        "crates/low/must-fail-more/two.edit": "# breaks: Adds.IsFew\nfile: src/sum.rt\nold: self.add()\nnew: self\n",
+        "crates/low/must-fail/one.edit": "file: src/sum.rt\nold: wrong\nnew: right\n",
+        "crates/low/must-fail-more.edits": "\n\n== three\n# breaks: Adds.Adds\nfile: src/sum.rt\nold: wrong\nnew: tree\n\n"
+        "== two\n# breaks: Adds.IsFew\nfile: src/sum.rt\nold: self.add()\nnew: self\n",
         "crates/low_tests/data/sums.cases": "# shows: Sum::add\nadd 1 => 1\nadded\n",
         "crates/low_tests/data/others.cases": "# shows: Other::add\nadd 1 => 1\n",
         "crates/low/proofs/sum/Sum/add/Answers.antt": "proof\n",
@@ -323,7 +325,7 @@ class OfAMadeUpRepository(unittest.TestCase):
                 "defined     low/specs/Sum.antt:2 abbrev pub Adds : Type 0",
                 "clauses     low/src/sum.rt (add):1",
                 "specs       low/specs/Sum.antt:2,3",
-                "edits       low/one (Sum::add); low/two (Adds.IsFew)",
+                "edits       low/three (Adds.Adds); low/two (Adds.IsFew); low/one (Sum::add)",
             ],
         )
 
@@ -337,7 +339,7 @@ class OfAMadeUpRepository(unittest.TestCase):
                 "            cites Adds of low/specs/Sum.antt",
                 "code        low/src/sum.rt:11",
                 "proofs      low/proofs/sum/Sum/add/Answers.antt:1",
-                "edits       low/one (Sum::add)",
+                "edits       low/three (Adds.Adds); low/one (Sum::add)",
                 "tests       low_tests/data/sums.cases:1,2",
             ],
         )
@@ -387,8 +389,16 @@ class OfAMadeUpRepository(unittest.TestCase):
         self.assertEqual(self.screen("32"), ["32", "code        go/tree.go:5", "longer      uint32 (1); uint32_t (1)"])
 
     def test_the_name_of_a_file_or_a_folder(self):
-        self.assertEqual(self.screen("two"), ["two", "files       low/must-fail-more/two.edit"])
+        self.assertEqual(self.screen("sums"), ["sums", "files       low_tests/data/sums.cases"])
         self.assertEqual(self.screen("low_tests"), ["low_tests", "files       low_tests/ 2 files"])
+
+    def test_an_edit_by_its_name(self):
+        found = ["defined     low/must-fail-more.edits:9 == two", "edits       low/two (Adds.IsFew)"]
+        for name in ("two", "low/two", "low/two.edit"):
+            self.assertEqual(self.screen(name), [name, *found])
+        whole = where.Search("low/two.edit", self.TEXTS).screen(is_whole=True)
+        self.assertEqual(whole[2:], ["edits       low/must-fail-more.edits:9"])
+        self.assertEqual(self.screen("high/two"), [])
 
     def test_a_mutant_by_its_name_and_by_its_text(self):
         at = "mount/a_birth_is_late (run/births.c.mutants"
@@ -421,6 +431,37 @@ class OfAMadeUpRepository(unittest.TestCase):
         said = where.Search("births", few).screen(is_whole=True)[1]
         self.assertTrue(said.endswith("rows.recorded:" + ",".join(map(str, range(1, 40)))))
 
+    def test_lines_with_their_texts(self):
+        said = [
+            "peak",
+            "code",
+            "  python/tree.py:2: def peak(self):",
+            "  python/tree.py:5: def peak(self):",
+            "  go/tree.go:4: func (t *Tree) peak() int { return 0 }",
+            "tests",
+            "  python/tests/test_tree.py:1: assert h.peak() == 1 and peak == 2",
+            "documents",
+            "  README.md:1: `Tree.peak` is a number.",
+            "longer",
+            "  mk_peak (1); peaks (1)",
+        ]
+        for given in (["--lines", "peak"], ["peak", "--lines"]):
+            status, out, _ = self.said_by(*given)
+            self.assertEqual((status, sorted(out.split("\n")[:-1])), (0, sorted(said)))
+        self.assertEqual(self.said_by("--lines", "absent")[0], 1)
+        self.assertIn("\n  evidence/linux-6.1/rows.recorded(5000)\n", self.said_by("--lines", "births")[1])
+        self.assertTrue(
+            self.said_by("--lines", "a_birth_is_late")[1].endswith("\nlonger\n  a_birth_is_late_again (1)\n")
+        )
+        long = {"a.py": f"x = 'far {'y' * 200}'\n"}
+        self.assertEqual([*where.Search("far", long).with_texts()][2], f"  a.py:1: x = 'far {'y' * 151}")
+
+    def test_a_system_call_has_its_numbers(self):
+        texts = {"a.c": "syscall(SYS_openat2);\nx = __NR_openat2;\nSYS_openat29\n", "a.py": "openat2()\nSYS_open\n"}
+        said = ["openat2 = SYS_openat2 = __NR_openat2", "code        ./ a.c:1,2 a.py:1", "longer      SYS_openat29 (1)"]
+        self.assertEqual(where.Search("openat2", texts).screen(), said)
+        self.assertEqual(where.Search("open", texts).names, ["open", "SYS_open"])
+
     def test_several_words_are_one_name(self):
         self.assertEqual(self.said_by("is", "a", "number"), (0, "is a number\ndocuments   README.md:1\n", ""))
         self.assertEqual(self.said_by("--all"), (1, "--all: no file of the repository has it\n", ""))
@@ -440,6 +481,8 @@ class OfAMadeUpRepository(unittest.TestCase):
             (["--", "--help"], 1, "--help: no file of the repository has it\n", ""),
             (["--", "--keep"], 0, "\n".join(self.screen("--keep")) + "\n", ""),
             (["--all", "--", "absent", "here"], 1, "absent here: no file of the repository has it\n", ""),
+            (["absent", "here", "--all"], 1, "absent here: no file of the repository has it\n", ""),
+            (["--", "--keep", "--all"], 1, "--keep --all: no file of the repository has it\n", ""),
         ):
             self.assertEqual(self.said_by(*given), (status, out, error), given)
 
@@ -527,6 +570,17 @@ class OfAMadeUpRepository(unittest.TestCase):
         self.assertEqual(said.getvalue(), "absent: no file of the repository has it\n")
 
 
+class OfWords(unittest.TestCase):
+    def test_a_word_of_newcomers(self):
+        for name in ("deb", "rpm", "install", "FEDORA"):
+            self.assertTrue(words.called_here(name), name)
+        self.assertEqual(words.called_here("fedoras"), [])
+
+    def test_a_message_of_an_errno(self):
+        self.assertEqual(words.called_here("Transport endpoint is not connected"), ["ENOTCONN"])
+        self.assertEqual(words.called_here("no such process"), ["ESRCH"])
+
+
 class WithoutGit(unittest.TestCase):
     def test_every_file_but_built_ones_is_read(self):
         with tempfile.TemporaryDirectory() as top, mock.patch.object(where, "ROOT", top):
@@ -587,19 +641,22 @@ class OfFewAndOfMany(unittest.TestCase):
         self.assertIn("mutants     mount/mutants/a.c.mutants 400 mutants", said)
 
     def test_many_edits_of_many_crates_are_counted(self):
-        block = "file: src/a.rt\nold: seldom\nnew: often\n"
-        for crates in (39, 300):
-            said = "\n".join(
-                where.Search(
-                    "seldom", {f"crates/some_crate_{at}/must-fail/x.edit": block for at in range(crates)}
-                ).screen()
-            )
-            self.assertEqual(len(re.findall(r"some_crate_\d+/x \(no function\)", said)), 39 if crates == 39 else 0)
-            self.assertEqual("edits       300 files in crates" in said, crates == 300)
+        block = "\n== {}\nfile: src/a.rt\nold: seldom\nnew: often\n"
+        for crates, each, counted in (
+            (13, 3, None),
+            (20, 2, "some_crate_0/ 2 edits; some_crate_1/ 2 edits"),
+            (150, 2, "300 edits in crates"),
+        ):
+            text = "".join(block.format(f"one_edit_{at}") for at in range(each))
+            texts = {f"crates/some_crate_{at}/must-fail-more.edits": text for at in range(crates)}
+            said = "\n".join(where.Search("seldom", texts).screen())
+            named = re.findall(r"some_crate_\d+/one_edit_\d \(no function\)", said)
+            self.assertEqual(len(named), 0 if counted else 39)
+            self.assertIn(counted or "", said)
 
     def test_the_option_lists_all(self):
         texts = self.search_of(400, 2).texts
-        for arguments, files in ((["seldom"], 0), (["--all", "seldom"], 400)):
+        for arguments, files in ((["seldom"], 0), (["--all", "seldom"], 400), (["seldom", "--all"], 400)):
             said = io.StringIO()
             with mock.patch.object(where, "repository", lambda: texts), contextlib.redirect_stdout(said):
                 self.assertEqual(where.main(arguments), 0)
