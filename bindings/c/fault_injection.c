@@ -2,7 +2,6 @@
  *
  * A fault waits at its engine until the path was named often enough. What a vanished group had is killed and removed by lines, so
  * it is recorded like any other command. */
-#include "freezer.h"
 #include "lines.h"
 #include <stdlib.h>
 #include <string.h>

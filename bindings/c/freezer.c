@@ -1,4 +1,6 @@
-#include "freezer.h"
+/* The freezer of a mount in memory: cgroup.freeze, and the line `frozen` of cgroup.events, as mk_put and mk_get have them. The engine
+   doesn't have it. A process is only a number, so it is frozen as soon as its group is. */
+#include "private.h"
 #include <stdlib.h>
 #include <string.h>
 

@@ -9,7 +9,6 @@
  * - A fork locks all slots. An error-checking mutex could not be unlocked in the child, whose thread has another id.
  */
 #include "makhloeum.h"
-#include "freezer.h"
 #include "lines.h"
 #include "private.h"
 #include <signal.h>

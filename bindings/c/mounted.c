@@ -1,6 +1,5 @@
 /* The files of a group as a mount shows them: one table, and values as the kernel reads them. Both are those of the mount, which
  * compiles number_parser.c too; python/tests/test_mounted.py compares the table. */
-#include "freezer.h"
 #include "lines.h"
 #include "number_parser.h"
 #include <errno.h>

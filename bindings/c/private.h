@@ -56,4 +56,16 @@ uint32_t faults_before(mk0_handle *engine, const uint8_t *path, size_t len, mk0_
 void faults_again(mk0_handle *engine, const uint8_t *path, size_t len);
 void faults_drop(struct slot *slot);
 
+/* The freezer of a mount in memory (freezer.c). All require the lock of the slot. What cgroup.freeze of the group says; and whether it
+   or a group above it freezes. */
+bool freezer_has(const struct slot *slot, const char *group);
+bool freezer_is_frozen(const struct slot *slot, const char *group);
+
+/* MK_DONE or MK_OUT_OF_MEMORY; the group exists. */
+uint32_t freezer_set(struct slot *slot, const char *group, bool freezes);
+
+/* A group may have been removed: one that is made in its place doesn't freeze. */
+void freezer_look(struct slot *slot);
+void freezer_drop(struct slot *slot);
+
 #endif

@@ -1,5 +1,4 @@
 /* A call for each command, and for each number of a group, over the lines of the trace language. */
-#include "freezer.h"
 #include "lines.h"
 #include <stdlib.h>
 #include <string.h>

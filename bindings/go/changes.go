@@ -5,7 +5,6 @@ import "C"
 
 import (
 	"context"
-	"runtime"
 	"time"
 )
 
@@ -23,14 +22,13 @@ func milliseconds(left time.Duration) uint32 {
 // Changes returns how many calls have changed the hierarchy, undos included. The error is ErrClosed or ErrBusy.
 func (h *Hierarchy) Changes() (uint64, error) {
 	var changes C.uint64_t
-	err := h.errorOf("changes", C.mk_changes(&h.handle, &changes))
+	err := errorOf("changes", C.mk_changes(&h.handle, &changes))
 	return uint64(changes), err
 }
 
 // Wait waits until Changes differs from seen, and returns it. The error is that of the context ctx, within 50 ms of its end, or
 // ErrClosed when the hierarchy is closed. Each wait keeps a thread.
 func (h *Hierarchy) Wait(ctx context.Context, seen uint64) (uint64, error) {
-	defer runtime.KeepAlive(h)
 	for {
 		var changes C.uint64_t
 		left := slice

@@ -5,6 +5,8 @@ import (
 	"fmt"
 	"io/fs"
 	"os"
+	"os/exec"
+	"path/filepath"
 	"regexp"
 	"strings"
 	"syscall"
@@ -180,7 +182,7 @@ func TestNoWordLeaksIntoAnother(t *testing.T) {
 	}
 }
 
-// A test of Go can't let a call run out of memory, nor interrupt it by a signal handler of C: so the statuses are given.
+// A test of Go can't let each call run out of memory, nor interrupt it by a signal handler of C: so the statuses are given.
 func TestEachStatusHasItsOwnError(t *testing.T) {
 	known := []error{syscall.ENOMEM, ErrClosed, ErrBusy}
 	for _, row := range []struct {
@@ -204,6 +206,33 @@ func TestEachStatusHasItsOwnError(t *testing.T) {
 			if errors.Is(err, it) != (it == row.is) {
 				t.Errorf("%v: %v", err, it)
 			}
+		}
+	}
+}
+
+// A call of C that only a new hierarchy makes is refused: by a library that is loaded before C's own, so in a process of its own.
+func TestNewWithoutMemory(t *testing.T) {
+	if os.Getenv("MAKHLOEUM_REFUSED") != "" {
+		h, err := New()
+		if h != nil || !errors.Is(err, syscall.ENOMEM) || err.Error() != "open: cannot allocate memory" {
+			t.Error(h, err)
+		}
+		return
+	}
+	source, library := filepath.Join(t.TempDir(), "refuse.c"), filepath.Join(t.TempDir(), "refuse.so")
+	refuse := fmt.Sprintf("int pthread_condattr_setclock(void *attributes, int clock) { return %d; }\n", syscall.ENOMEM)
+	if err := os.WriteFile(source, []byte(refuse), 0o644); err != nil {
+		t.Fatal(err)
+	}
+	compiler := os.Getenv("CC")
+	if compiler == "" {
+		compiler = "gcc"
+	}
+	alone := exec.Command(os.Args[0], "-test.run=^TestNewWithoutMemory$")
+	alone.Env = append(os.Environ(), "MAKHLOEUM_REFUSED=yes", "LD_PRELOAD="+library)
+	for _, command := range []*exec.Cmd{exec.Command(compiler, "-shared", "-fPIC", "-o", library, source), alone} {
+		if said, err := command.CombinedOutput(); err != nil {
+			t.Fatalf("%v: %v: %s", command, err, said)
 		}
 	}
 }

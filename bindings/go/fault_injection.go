@@ -33,6 +33,6 @@ func (h *Hierarchy) Vanish(path string, nth uint64) error {
 // ClearFaults drops the faults that have not occurred, and returns how many there were. The error is ErrClosed or ErrBusy.
 func (h *Hierarchy) ClearFaults() (int, error) {
 	var left C.size_t
-	err := h.errorOf("clear faults", C.mk_clear_faults(&h.handle, &left))
+	err := errorOf("clear faults", C.mk_clear_faults(&h.handle, &left))
 	return int(left), err
 }

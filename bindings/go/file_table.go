@@ -6,7 +6,6 @@ import "C"
 
 import (
 	"io/fs"
-	"runtime"
 	"strings"
 	"syscall"
 	"unsafe"
@@ -70,7 +69,6 @@ func (h *Hierarchy) get(group, name string) (string, error) {
 	text, err := c.told(command{text: "read " + group + " " + name, path: group, hasPath: true}, func() C.uint32_t {
 		return C.mk_get(&h.handle, path, file, (*C.char)(unsafe.Pointer(at(c.out))), C.size_t(len(c.out)), &c.info)
 	})
-	runtime.KeepAlive(h)
 	return string(text), err
 }
 
@@ -83,7 +81,6 @@ func (h *Hierarchy) put(group, name string, data []byte, self int) error {
 	defer free()
 	var info C.mk_info
 	status := C.mk_put(&h.handle, path, file, (*C.char)(unsafe.Pointer(at(data))), C.size_t(len(data)), C.int64_t(self), &info)
-	runtime.KeepAlive(h)
 	switch status {
 	case C.MK_DONE:
 		return nil

@@ -5,7 +5,6 @@ import "C"
 
 import (
 	"errors"
-	"runtime"
 	"strings"
 )
 
@@ -23,7 +22,6 @@ func (h *Hierarchy) askedOf(c *call, operation, path string, do func(text *C.uin
 	told, err := c.told(command{text: operation + " " + path, path: path, hasPath: true}, func() C.uint32_t {
 		return do(at(text), C.size_t(len(text)))
 	})
-	runtime.KeepAlive(h)
 	return told, err
 }
 

@@ -46,8 +46,11 @@ import (
 // effect one after the other.
 type Hierarchy struct {
 	_      [0]sync.Mutex // go vet reports a copy, whose original the garbage collector would close
-	handle C.mk_handle
+	handle C.mk_handle   // a call of C has a pointer to it, so the finalizer doesn't run meanwhile
 }
+
+// Version returns the version of the library that the program was linked with, such as "1.0.0".
+func Version() string { return C.GoString(C.mk_version()) }
 
 // New makes a hierarchy. Close frees it. If it is not closed, its finalizer frees it once nothing refers to it. The error is
 // syscall.ENOMEM when out of memory.
@@ -68,7 +71,7 @@ func made(operation string, fill func(h *Hierarchy) uint32) (*Hierarchy, error) 
 // Close waits for the call that is running and frees the engine. Every later call returns ErrClosed, a second Close too. The error is
 // ErrClosed or ErrBusy, so the first Close of a program without handlers in C has none. It takes time for each group, process and
 // recorded command.
-func (h *Hierarchy) Close() error { return h.errorOf("close", C.mk_close(&h.handle)) }
+func (h *Hierarchy) Close() error { return errorOf("close", C.mk_close(&h.handle)) }
 
 // at returns a pointer for a text that may be empty.
 func at(text []byte) *C.uint8_t {
@@ -138,7 +141,6 @@ func shown(answer []byte) string {
 // asked returns the text that a call's answer shows.
 func (h *Hierarchy) asked(c *call, what command, do func() C.uint32_t) (string, error) {
 	answer, err := c.told(what, do)
-	runtime.KeepAlive(h)
 	if err != nil || len(answer) == 0 {
 		return "", err
 	}
@@ -250,8 +252,7 @@ func (h *Hierarchy) Undo() (string, error) {
 }
 
 // errorOf is the error of a call with that status, which took neither a line nor a path.
-func (h *Hierarchy) errorOf(call string, status C.uint32_t) error {
-	runtime.KeepAlive(h)
+func errorOf(call string, status C.uint32_t) error {
 	if status == C.MK_DONE {
 		return nil
 	}
@@ -261,20 +262,19 @@ func (h *Hierarchy) errorOf(call string, status C.uint32_t) error {
 // Depth returns how many recorded commands can be undone. The error is ErrClosed or ErrBusy.
 func (h *Hierarchy) Depth() (int, error) {
 	var depth C.size_t
-	err := h.errorOf("depth", C.mk_depth(&h.handle, &depth))
+	err := errorOf("depth", C.mk_depth(&h.handle, &depth))
 	return int(depth), err
 }
 
 // Forget forgets the recorded commands and frees their memory: groups, processes and counts stay, and nothing earlier can
 // be undone. The error is ErrClosed or ErrBusy. It takes time for each recorded command, and no memory.
 func (h *Hierarchy) Forget() error {
-	return h.errorOf("forget", C.mk_forget(&h.handle))
+	return errorOf("forget", C.mk_forget(&h.handle))
 }
 
 // Copy makes a new hierarchy with the same groups, processes, counts and recorded commands. From then on the two are
 // independent. The copy has no faults of Fail and Vanish, and its Changes begins at 0. It is freed like one that New
 // makes. The error is ErrClosed, ErrBusy or syscall.ENOMEM. It takes time and memory for each group, process and recorded command.
 func (h *Hierarchy) Copy() (*Hierarchy, error) {
-	defer runtime.KeepAlive(h)
 	return made("copy", func(to *Hierarchy) uint32 { return uint32(C.mk_copy(&h.handle, &to.handle)) })
 }

@@ -5,8 +5,11 @@ import (
 	"fmt"
 	"io"
 	"io/fs"
+	"os/exec"
 	"reflect"
+	"runtime"
 	"sort"
+	"strings"
 	"syscall"
 	"testing"
 )
@@ -52,6 +55,17 @@ func says(t *testing.T, want, got string, err error) {
 	t.Helper()
 	if err != nil || got != want {
 		t.Fatalf("%q, %v; not %q", got, err, want)
+	}
+}
+
+func TestVersion(t *testing.T) {
+	version, err := exec.Command("../version").Output()
+	if err != nil {
+		t.Fatal(err)
+	}
+	want := strings.TrimSpace(string(version))
+	if got := strings.TrimSuffix(Version(), " without proofs"); got != want {
+		t.Errorf("Version() is %q, not %q", Version(), want)
 	}
 }
 
@@ -208,6 +222,39 @@ func TestOnlyTheFirstCloseHasNoError(t *testing.T) {
 	}
 	if err := new(Hierarchy).Close(); !errors.Is(err, ErrClosed) {
 		t.Error(err)
+	}
+}
+
+// The memory of a call, with room for most answers, is used again by the next one.
+func TestACallUsesTheMemoryOfAnother(t *testing.T) {
+	h := newWithGroup(t)
+	closeAtEnd(t, h)
+	const times, most = 5000, 600 // bytes; the memory of a call is larger
+	for name, call := range map[string]func() error{
+		"Line":     func() error { _, err := h.Line("cat /a pids.max"); return err },
+		"Read":     func() error { _, err := h.Read("/a", "pids.max"); return err },
+		"Children": func() error { _, err := h.Children("/a"); return err },
+		"HasGroup": func() error { _, err := h.HasGroup("/a"); return err },
+		"get":      func() error { _, err := h.get("/a", "pids.max"); return err },
+		"Undo": func() error {
+			if err := h.Mkdir("/b"); err != nil {
+				return err
+			}
+			_, err := h.Undo()
+			return err
+		},
+	} {
+		var before, after runtime.MemStats
+		runtime.ReadMemStats(&before)
+		for i := 0; i < times; i++ {
+			if err := call(); err != nil {
+				t.Fatal(name, err)
+			}
+		}
+		runtime.ReadMemStats(&after)
+		if each := (after.TotalAlloc - before.TotalAlloc) / times; each > most {
+			t.Errorf("%s: %d bytes for each", name, each)
+		}
 	}
 }
 

@@ -4,7 +4,6 @@ package makhloeum
 import "C"
 
 import (
-	"runtime"
 	"strings"
 	"unsafe"
 )
@@ -41,7 +40,6 @@ func (h *Hierarchy) ReadMany(files []File) ([]Text, error) {
 	for {
 		status := C.mk_read_many(&h.handle, (*C.char)(unsafe.Pointer(&words[0])), C.size_t(len(files)), &texts[0],
 			(*C.char)(unsafe.Pointer(&out[0])), C.size_t(len(out)), &info)
-		runtime.KeepAlive(h)
 		if status == C.MK_DONE {
 			break
 		}

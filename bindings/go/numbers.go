@@ -6,7 +6,6 @@ import "C"
 
 import (
 	"fmt"
-	"runtime"
 	"strings"
 	"syscall"
 	"unsafe"
@@ -26,7 +25,6 @@ func (h *Hierarchy) callWithPath(what, path string, call func(path *C.char, info
 	defer C.free(unsafe.Pointer(text))
 	var info C.mk_info
 	status := call(text, &info)
-	runtime.KeepAlive(h)
 	if status == C.MK_DONE {
 		return nil
 	}
@@ -105,7 +103,6 @@ func (h *Hierarchy) UndoTo(mark int) error {
 	}
 	var info C.mk_info
 	status := C.mk_undo_to(&h.handle, C.size_t(mark), &info)
-	runtime.KeepAlive(h)
 	if status == C.MK_DONE {
 		return nil
 	}

@@ -114,7 +114,8 @@ func TestCallsWithAPathLeaveNoMemory(t *testing.T) {
 			_, current := h.Current("/" + long)
 			_, pids := h.Processes(long)
 			_, _, limit := h.Limit(long)
-			for _, err := range []error{current, pids, limit, h.Fail(long, 1, syscall.EIO), h.Vanish(long, 1), f.WriteFile(long+"/pids.max", nil), f.WriteFile(long, nil)} {
+			_, text := f.ReadFile(long + "/pids.max")
+			for _, err := range []error{current, pids, limit, text, h.Fail(long, 1, syscall.EIO), h.Vanish(long, 1), f.WriteFile(long+"/pids.max", nil), f.WriteFile(long, nil)} {
 				if err == nil {
 					t.Fatal("no error")
 				}

@@ -7,7 +7,6 @@ import "C"
 
 import (
 	"context"
-	"runtime"
 	"strings"
 	"unsafe"
 )
@@ -69,7 +68,6 @@ func (w *watch) grow(size C.size_t) {
 
 // next waits for a text that differs from the one before.
 func (w *watch) next(ctx context.Context) (string, bool) {
-	defer runtime.KeepAlive(w.h)
 	for ctx.Err() == nil {
 		var info C.mk_info
 		status := C.mk_wait_file(&w.h.handle, w.path, w.file, w.text, C.uint32_t(milliseconds(slice)), w.text, w.size, &info)

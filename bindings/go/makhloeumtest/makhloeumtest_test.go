@@ -2,6 +2,9 @@ package makhloeumtest_test
 
 import (
 	"errors"
+	"fmt"
+	"reflect"
+	"runtime"
 	"testing"
 
 	"makhloeum"
@@ -30,5 +33,43 @@ func TestATestMayCloseItsHierarchy(t *testing.T) {
 	})
 	if !passed {
 		t.Error("the second Close failed the test")
+	}
+}
+
+// ending is a test that keeps why it ends, and how often it was told that its caller is a helper.
+type ending struct {
+	testing.TB
+	said    string
+	helpers int
+}
+
+func (e *ending) Helper() { e.helpers++ }
+
+func (e *ending) Fatal(args ...interface{}) {
+	e.said = fmt.Sprint(args...)
+	runtime.Goexit()
+}
+
+func TestTheFirstRefusedLineEndsTheTest(t *testing.T) {
+	h := makhloeumtest.New(t)
+	inner, done := &ending{TB: t}, make(chan bool)
+	go func() {
+		defer close(done)
+		makhloeumtest.Do(inner, h, "mkdir /a", "mkdir /a", "mkdir /b")
+	}()
+	<-done
+	if inner.said != "mkdir /a: file exists (exists)" || inner.helpers != 1 {
+		t.Error(inner.said, inner.helpers)
+	}
+	if groups, err := h.Groups("/"); err != nil || !reflect.DeepEqual(groups, []string{"/", "/a"}) {
+		t.Error(groups, err)
+	}
+}
+
+// A failure is that of the line of the test, not of the package.
+func TestNewIsAHelper(t *testing.T) {
+	inner := &ending{TB: t}
+	if _, err := makhloeumtest.New(inner).Undo(); err == nil || inner.helpers != 1 {
+		t.Error(err, inner.helpers)
 	}
 }

@@ -35,7 +35,6 @@ class Shell(cmd.Cmd):
 
     def __init__(self, hierarchy: Hierarchy, out: TextIO = sys.stdout) -> None:
         super().__init__(stdout=out)
-        self.use_rawinput = True
         self.h = hierarchy
         self.failed = False
         self._sources: list[tuple[int, int]] = []  # the scripts that are being answered, by device and inode
@@ -67,9 +66,7 @@ class Shell(cmd.Cmd):
         return (name, words.strip(), line) if line else (None, None, line)
 
     def onecmd(self, line: str) -> bool:
-        # cmd would take a comment as a command, and a line EOF as the end of the input
-        if line.strip().startswith("#"):
-            return False
+        # cmd would take a line EOF as the end of the input
         name = self.parseline(line)[0]
         if name and not hasattr(self, "do_" + name):
             self.default(line)

@@ -40,7 +40,7 @@ class Many:
                 break
             if status != TOO_SMALL:
                 _raise(status, "read_many", info=info)
-            size = info.needed + _BYTES_EACH
+            size = info.needed
         told = out.raw
         return [_text_of(told, text, *pair) for text, pair in zip(texts, pairs)]
 

@@ -193,7 +193,6 @@ class Tree:
             raise error(library.mk_path_errno(refused.fault), node.shown) from None
         except OSError as refused:
             raise error(refused.errno, node.shown) from None
-        self.watch.look()
 
     def rmdir(self, node: Node) -> None:
         if node.file is not None:

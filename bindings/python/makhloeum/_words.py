@@ -84,8 +84,6 @@ def _path_fault(refused: bytes, path: str, command: str) -> BadPath:
     """The fault of a text that is not a path; `path` is the one that the exception names."""
     position = ctypes.c_size_t()
     fault = library.mk_path_fault(refused, len(refused), ctypes.byref(position))
-    if fault == 0:
-        return BadPath("path", path, command)
     message = library.mk_path_message(fault).decode()
     error = BY_FAULT[fault](f"path: {message}, at {position.value}", path, command)
     error.position = position.value

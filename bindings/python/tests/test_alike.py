@@ -1,6 +1,7 @@
 """Served files beside real ones: each call is made on both, and answers alike. What a cgroup file does otherwise is in tables."""
 
 import errno
+import io
 import os
 import pathlib
 import stat
@@ -346,6 +347,26 @@ def test_a_real_directory_has_the_mode_that_is_asked_for(h, real):
     modes = [stat.S_IMODE(os.stat(f"{real}/{name}").st_mode) for name in ("private", "beside")]
     assert modes == [0o700, 0o500]
     assert stat.S_IMODE(os.stat(tempfile.mkdtemp(dir=real)).st_mode) == 0o700
+
+
+def test_a_real_file_is_opened_with_the_words_that_are_given(h, real):
+    path = f"{real}/text"
+    with open(path, "w", 1, "utf-16-le", "strict", "\r\n") as file:
+        assert file.line_buffering and file.write("\xe4\n") == 2
+    with open(path, "rb", buffering=0) as file:
+        assert isinstance(file, io.FileIO) and file.read() == b"\xe4\0\r\0\n\0"
+    with open(path, encoding="ascii", errors="ignore", newline="") as file:
+        assert file.read() == "\0\r\0\n\0"
+    with open(f"{real}/made", "w", opener=lambda path, flags: os.open(path, flags, 0o600)) as file:
+        assert stat.S_IMODE(os.fstat(file.fileno()).st_mode) == 0o600
+    folder = os.open(real, os.O_RDONLY)
+    fd = os.open("beside", os.O_WRONLY | os.O_CREAT, 0o400, dir_fd=folder)
+    with open(fd, "w", closefd=False) as file:
+        file.write("x")
+    assert os.write(fd, b"y") == 1 and os.stat("beside", dir_fd=folder).st_size == 2
+    assert stat.S_IMODE(os.stat(f"{real}/beside").st_mode) == 0o400
+    for it in (fd, folder):
+        os.close(it)
 
 
 # ---- what is refused, and what does nothing

@@ -6,7 +6,9 @@ import threading
 
 import pytest
 
-from makhloeum import BadValue, Hierarchy, NothingToUndo, mounted_at
+from makhloeum import BadSyntax, BadValue, Hierarchy, NothingToUndo, mounted_at
+
+SYNTAX = "Invalid argument (syntax: an unknown command, a wrong number of words, or a line that is too long)"
 
 
 @pytest.fixture
@@ -50,6 +52,35 @@ def test_a_truth_value_is_no_value(h, file, wrong):
     assert h.depth() == 2 and h.limit("/a") is None
 
 
+@pytest.mark.parametrize(
+    "call, kind, said",
+    [
+        (lambda h: h.exit(True), TypeError, "a pid is an int, not bool"),
+        (lambda h: h.undo_to(True), TypeError, "a mark is an int, not bool"),
+        (lambda h: h.wait(True), TypeError, "a number of changes is an int, not bool"),
+        (lambda h: h.fail("/a", error=True), TypeError, "an errno is an int, not bool"),
+        (lambda h: h.vanish("/a", nth=True), TypeError, "nth is an int, not bool"),
+        (lambda h: mounted_at("/x", pid=True).__enter__(), TypeError, "a pid is an int, not bool"),
+        (lambda h: mounted_at("/x", "h").__enter__(), TypeError, "mounted_at: a Hierarchy or None, not str"),
+        (lambda h: mounted_at("/").__enter__(), ValueError, "mounted_at: a hierarchy can't be mounted at /"),
+        (lambda h: h.wait(2, "1"), TypeError, "wait: a timeout is a number of seconds or None, not str"),
+        (lambda h: h.wait(2, math.nan), ValueError, "wait: a timeout is a number of seconds, not nan"),
+        (lambda h: h.wait(-1), ValueError, "wait: -1 is not a number of changes"),
+        (lambda h: h.undo_to(-1), ValueError, "a mark is not negative"),
+        (lambda h: h.fail("/a", error=0), ValueError, "fail /a: 0 is not an errno"),
+        (lambda h: h.fail("/a", error=5, nth=0), ValueError, "fail /a: nth is 1 for the next call, not 0"),
+        (lambda h: h.vanish(b"/a", -1), ValueError, "vanish /a: nth is 1 for the next call, not -1"),
+        (lambda h: h.vanish("/"), ValueError, "vanish /: the root cannot be removed"),
+        (lambda h: h.read_many(["ab"]), TypeError, "read_many: 'ab' is not a pair of a path and a file's name"),
+        (lambda h: h.line("mkdir /a\n"), BadSyntax, f"mkdir /a\n: {SYNTAX}"),
+    ],
+)
+def test_an_error_says_what_is_wrong_with_an_argument(h, call, kind, said):
+    with pytest.raises(kind) as wrong:
+        call(h)
+    assert str(wrong.value) == said and h.depth() == 2 and h.clear_faults() == 0
+
+
 def test_a_number_of_changes_is_not_wrapped(h):
     for wrong in (-1, 2**64, 2**64 + 2):
         with pytest.raises(ValueError, match="is not a number of changes"):
@@ -63,8 +94,9 @@ def test_a_timeout_is_a_number_of_seconds(h):
     for wrong in ("1", True, [1], b"1"):
         with pytest.raises(TypeError, match="wait: a timeout is"):
             h.wait(2, timeout=wrong)
+    # a number that has passed: without its refusal the call returns
     with pytest.raises(ValueError, match="nan"):
-        h.wait(2, timeout=math.nan)
+        h.wait(1, timeout=math.nan)
     assert h.wait(1, timeout=math.inf) == 2
 
 

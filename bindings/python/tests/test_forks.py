@@ -8,11 +8,13 @@ import threading
 import time
 import warnings
 
+import pytest
+
 from makhloeum import mounted_at
 from makhloeum._calls import CALLS
 
 AT = "/sys/fs/cgroup"
-PATIENCE = 300  # seconds
+PATIENCE = 15 if os.environ.get("FAIL_FAST") else 300  # seconds
 
 
 def status_of(child):
@@ -77,21 +79,35 @@ def test_a_child_reads_what_is_polled(hierarchy):
         os.close(fd)
 
 
-def test_a_fork_just_as_another_thread_looks(hierarchy):
+# What has a lock that another thread may have at a fork, of an open file.
+LOCKED = {
+    "an open file": lambda fd: CALLS.descriptors.get(fd).poller,
+    "what looks at open files": lambda fd: CALLS.descriptors.get(fd).node.tree.watch,
+    "the mounts": lambda fd: CALLS,
+}
+
+
+@pytest.mark.parametrize("name", LOCKED)
+def test_a_fork_just_as_another_thread_has_a_lock(hierarchy, tmp_path, name):
     hierarchy.mkdir("/a")
     with mounted_at(AT, hierarchy):
         fd = os.open(f"{AT}/a/cgroup.events", os.O_RDONLY)
-        looks, ends = threading.Event(), threading.Event()
+        has, ends = threading.Event(), threading.Event()
 
-        def look():
-            with CALLS.descriptors.get(fd).poller._lock:
-                looks.set()
+        def lock():
+            with LOCKED[name](fd)._lock:
+                has.set()
                 ends.wait(2 * PATIENCE)
 
-        thread = threading.Thread(target=look)
+        def read():
+            with mounted_at(tmp_path), open(f"{AT}/a/cgroup.events", "rb", 0) as file:
+                os.mkdir(tmp_path / "b")
+                return os.pread(fd, 99, 0) == file.read() == b"populated 0\nfrozen 0\n"
+
+        thread = threading.Thread(target=lock)
         thread.start()
-        assert looks.wait(PATIENCE)
-        status = in_a_child(lambda: os.pread(fd, 99, 0) == b"populated 0\nfrozen 0\n")
+        assert has.wait(PATIENCE)
+        status = in_a_child(read)
         ends.set()
         thread.join()
         assert status == 0

@@ -6,7 +6,7 @@ import threading
 
 import pytest
 
-from makhloeum import Hierarchy
+from makhloeum import Hierarchy, mounted_at
 from makhloeum._library import WOULD_BLOCK, library, patient, waiting
 
 PROCESSES = 60_000
@@ -70,6 +70,24 @@ def test_a_call_that_may_be_long_gives_up_the_lock(hierarchy, made, name):
 
 def test_a_wait_gives_up_the_lock():
     assert not waiting._flags_ & ctypes._FUNCFLAG_PYTHONAPI
+
+
+@pytest.mark.parametrize(
+    "name, call, is_long",
+    [
+        ("cgroup.procs", "mk_get", True),
+        ("cgroup.threads", "mk_get", True),
+        ("pids.max", "mk_get", False),
+        ("cgroup.kill", "mk_put", True),
+        ("pids.max", "mk_put", False),
+    ],
+)
+def test_a_call_of_a_served_file_gives_up_the_lock_if_it_may_be_long(hierarchy, made, tmp_path, name, call, is_long):
+    hierarchy.mkdir("/a")
+    with mounted_at(tmp_path, hierarchy):
+        path = tmp_path / "a" / name
+        path.read_text() if call == "mk_get" else path.write_text("1")
+    assert {gives_up for it, gives_up in made if it == call} == {is_long}
 
 
 SHORT = {

@@ -397,6 +397,13 @@ def test_faults_reach_who_opens_files(hierarchy):
         assert code(read, at("b", "pids.max")) == "EIO" and read(at("b", "pids.max")) == b"max\n"
 
 
+@pytest.mark.parametrize("version", [(3, 8, 0), (3, 10, 99)])
+def test_an_older_python_is_refused(monkeypatch, version):
+    monkeypatch.setattr(sys, "version_info", version)
+    with pytest.raises(RuntimeError, match="^mounted_at needs Python 3.11$"):
+        mounted_at(AT).__enter__()
+
+
 def test_threads_see_it_too(h):
     os.mkdir(at("a"))
     told = []

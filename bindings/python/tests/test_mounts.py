@@ -19,7 +19,7 @@ from os import open as early_open
 
 import pytest
 
-from makhloeum import Hierarchy, mounted_at
+from makhloeum import Hierarchy, _library, mounted_at
 from makhloeum._calls import _OF_A_NAME, _OF_TWO_NAMES, _REFUSED, _SERVED, _SYNCS, _WITHOUT_EFFECT, CALLS
 
 REAL_STAT = os.stat
@@ -82,6 +82,17 @@ def test_two_blocks_may_end_crosswise(tmp_path):
     assert two.groups() == ["/", "/b", "/c"]
     second.__exit__(None, None, None)
     assert not os.path.exists(tmp_path / "two")
+
+
+def test_a_block_ends_although_its_hierarchy_cannot_be_closed(monkeypatch):
+    block = mounted_at(AT)
+    h = block.__enter__()
+    with monkeypatch.context() as patched:
+        patched.setattr(_library.library, "mk_close", lambda *words: _library.BUSY)
+        with pytest.raises(RuntimeError, match="^close: a call of this thread is running$"):
+            block.__exit__(None, None, None)
+    assert CALLS._mounts == [] and not h.closed
+    h.close()
 
 
 @pytest.mark.parametrize("order", [(0, 1, 2), (1, 0, 2), (1, 2, 0), (2, 0, 1), (0, 2, 1), (2, 1, 0)])
@@ -334,6 +345,8 @@ def test_vectors_of_other_files_are_as_before(h, tmp_path):
     assert os.writev(fd, [b"ab", b"c"]) == 3 and os.preadv(fd, [part], 1) == 2 and part == b"bc"
     assert os.pwritev(fd, [b"X"], 0) == 1 and os.pread(fd, 9, 0) == b"Xbc" and os.lseek(fd, 0, os.SEEK_SET) == 0
     assert os.readv(fd, [part]) == 2 and os.pwrite(fd, b"Y", 0) == 1
+    no_flag = 1 << 20
+    assert code(os.preadv, fd, [part], 0, no_flag) == code(os.pwritev, fd, [b"Z"], 0, no_flag) == "EOPNOTSUPP"
     copy = os.dup(fd)
     assert os.fstat(copy).st_size == 3
     os.closerange(copy, copy + 1)
@@ -614,6 +627,35 @@ def test_a_file_of_a_removed_group_is_not_that_of_a_new_one(h):
     os.mkdir(f"{AT}/a")
     assert code(os.write, fd, b"5") == code(os.read, fd, 9) == "ENODEV" and h.limit("/a") is None
     os.close(fd)
+
+
+def test_a_write_to_a_group_that_was_removed_by_a_call(h):
+    """It is told by the write alone, and a new group is another one."""
+    fd, other = (os.open(f"{AT}/a/pids.max", os.O_RDWR) for _ in range(2))
+    h.rmdir("/a")
+    assert code(os.write, fd, b"5") == "ENODEV"
+    h.mkdir("/a")
+    assert code(os.write, fd, b"5") == code(os.pread, fd, 9, 0) == "ENODEV" and h.limit("/a") is None
+    for it in (fd, other):
+        os.close(it)
+
+
+def test_a_write_to_a_closed_hierarchy(hierarchy):
+    hierarchy.mkdir("/a")
+    with mounted_at(AT, hierarchy):
+        fd = os.open(f"{AT}/a/pids.max", os.O_WRONLY)
+        hierarchy.close()
+        with pytest.raises(ValueError, match=f"^write {AT}/a/pids.max: the hierarchy is closed$"):
+            os.write(fd, b"5")
+        os.close(fd)
+
+
+def test_os_tells_of_the_served_functions_what_it_tells_of_the_real_ones(h):
+    """Which take a descriptor, a name beside one, and the like."""
+    sets = (os.supports_fd, os.supports_dir_fd, os.supports_effective_ids, os.supports_follow_symlinks)
+    for names, before in zip(sets, SETS):
+        for (module, name), was in zip(REPLACED, BEFORE):
+            assert (getattr(module, name) in names) == (was in before), name
 
 
 def test_a_buffered_line_is_a_write(h):

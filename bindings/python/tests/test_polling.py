@@ -8,6 +8,8 @@ import select
 import shutil
 import signal
 import socket
+import subprocess
+import sys
 import threading
 import time
 from os import read as early_read
@@ -276,6 +278,28 @@ def test_a_wait_ends_with_the_block(hierarchy, ready, own):
     later.join()
     file.close()
     os.close(fd)
+
+
+UNENDED = """
+import makhloeum
+block = makhloeum.mounted_at()
+h = block.__enter__()
+h.mkdir("/a")
+file = open("/sys/fs/cgroup/a/cgroup.events")
+print(file.read())
+"""
+
+
+def test_a_program_ends_whose_block_does_not():
+    """The thread that looks at open files keeps no program."""
+    ran = subprocess.run(
+        [sys.executable, "-c", UNENDED],
+        capture_output=True,
+        text=True,
+        timeout=60,
+        env=dict(os.environ, PYTHONPATH=os.path.dirname(os.path.dirname(_notify.__file__))),
+    )
+    assert (ran.returncode, ran.stdout) == (0, "populated 0\nfrozen 0\n\n")
 
 
 # ---- threads, handlers, and many changes

@@ -160,6 +160,7 @@ def test_what_a_line_of_the_shell_changes(shell):
 def test_the_help_names_each_command(shell):
     shell.onecmd("help")
     told = shell.stdout.getvalue()
+    assert told.startswith("\nCommands (help COMMAND says more):\n==")
     names = sorted(told.split("=\n")[1].split())
     assert names == sorted(
         [

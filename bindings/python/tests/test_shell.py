@@ -115,7 +115,7 @@ def test_completion(hierarchy):
     assert complete("", "rmdir /alpha/", 13, 13) == ["x"]
     assert complete("pids.c", "cat /alpha pids.c", 11, 17) == ["pids.current"]
     assert complete("pids.m", "write /alpha pids.m", 13, 19) == ["pids.max"]
-    assert complete("", "mkdir /alpha ", 13, 13) == []
+    assert complete("", "mkdir /alpha ", 13, 13) == [] == complete("", "rmdir /none/", 12, 12)
     assert shell.completenames("m") == ["mkdir"]
     assert shell.completenames("E") == []
 
@@ -188,6 +188,19 @@ def test_a_terminal_has_a_prompt():
     terminal.type(b"mkdir /a\nmkdir /a\nquit\n")
     told = terminal.end()
     assert b"makhloeum> " in told and b"mkdir /a: File exists (exists)" in told
+
+
+def test_a_tab_completes_a_path():
+    pytest.importorskip("readline")
+    terminal = Terminal()
+    terminal.wait_for(b"makhloeum> ")
+    terminal.type(b"mkdir /alpha\n")
+    terminal.wait_for(b"makhloeum> ")
+    terminal.type(b"rmdir /al\t\n")
+    terminal.wait_for(b"makhloeum> ")
+    terminal.type(b"ls\nquit\n")
+    told = terminal.end()
+    assert b"cgroup.procs\r\n" in told and b"alpha/" not in told
 
 
 def test_an_interrupt_drops_the_line():
