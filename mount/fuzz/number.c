@@ -1,6 +1,6 @@
 /* The values that are written: what is accepted is what strtoll reads too, in its range, and says itself again. */
 #include "common/bounds.h"
-#include "server/control_numbers.h"
+#include "server/control.h"
 #include <limits.h>
 #include <number_parser.h>
 #include <stdint.h>
@@ -47,7 +47,7 @@ int LLVMFuzzerTestOneInput(const uint8_t *data, size_t size)
 		else
 			require(kind == A_COUNT || kind == A_PIDS_LIMIT);
 	}
-	int count = control_numbers_read(text, size, numbers, 2);
+	int count = control_numbers(text, size, numbers, 2);
 	require(count <= 2);
 	return 0;
 }

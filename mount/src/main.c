@@ -1,6 +1,5 @@
 /* The command line: makhloeum mount, makhloeum run, and the commands that are separate programs. */
 #include "common/message.h"
-#include "run/execute.h"
 #include "run/run.h"
 #include "server/serve.h"
 #include <errno.h>

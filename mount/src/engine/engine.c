@@ -1,7 +1,6 @@
 #include "engine/engine.h"
 #include "common/bounds.h"
 #include "common/message.h"
-#include "engine/buffer.h"
 #include "engine/engine_queries.h"
 #include "engine/undo_steps.h"
 #include <errno.h>

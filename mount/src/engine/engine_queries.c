@@ -1,5 +1,5 @@
 #include "engine/engine_queries.h"
-#include "engine/buffer.h"
+#include "common/growing_array.h"
 #include "engine/engine.h"
 #include <errno.h>
 #include <stdint.h>
@@ -8,6 +8,15 @@
 #include <string.h>
 
 enum { FIRST_ROOM = 16384 };
+
+/* An answer that grows by one line at a time is copied seldom, since the room is doubled. */
+bool buffer_make_room(struct buffer *b, size_t room)
+{
+	char *at = growing_array_make_room(b->at, room, &b->room, sizeof *at);
+	if (at)
+		b->at = at;
+	return at != NULL;
+}
 
 /* One for each kind of answer: a caller may use the names of a group's children while it asks for paths. */
 static struct buffer names, paths, past;

@@ -8,10 +8,10 @@
 
 /* It never waits: a FIFO without a reader is refused and not opened. It is opened without O_CREAT
    first: so the caller knows whether it made the file, and may remove it if the mount does not
-   begin. O_NOCTTY: the file may be a terminal. */
+   begin. */
 static int open_to_write(const char *name, bool *was_made)
 {
-	const int flags = O_WRONLY | O_CLOEXEC | O_NONBLOCK | O_NOCTTY;
+	const int flags = O_WRONLY | O_CLOEXEC | O_NONBLOCK;
 	int fd = open(name, flags);
 	*was_made = false;
 	if (fd < 0 && errno == ENOENT) {

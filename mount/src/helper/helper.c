@@ -30,7 +30,6 @@ static int reading;
 void helper_end(void)
 {
 	own_processes_kill(process);
-	close(to_helper);
 }
 
 /* Returns false if the helper can't take another one now. If it has ended, so does the program soon, and waits without an answer
@@ -75,7 +74,6 @@ bool helper_take(struct helper_reply *reply)
 	ssize_t n = recv(to_helper, reply, sizeof *reply, MSG_DONTWAIT);
 	if (n <= (ssize_t)offsetof(struct helper_reply, group))
 		return false;
-	reply->group[sizeof reply->group - 1] = 0;
 	reading--;
 	return true;
 }
@@ -84,13 +82,12 @@ bool helper_take(struct helper_reply *reply)
 
 static void read_arguments(const struct helper_question *q, struct helper_reply *r)
 {
-	/* If nobody may read the program's file, its memory is not read: C libraries then use `clone`. */
-	if (q->size > sizeof r->args || !program_memory_read(q->thread, q->at, &r->args, q->size))
+	/* If nobody may read the program's file, its memory is not read: C libraries then use `clone`. The size fits
+	   (registers_check_clone_size). */
+	if (!program_memory_read(q->thread, q->at, &r->args, q->size))
 		r->fault = errno == EPERM ? -ENOSYS : -EFAULT;
 	else if (r->args.flags & CLONE_INTO_CGROUP)
 		r->group_fault = mount_root_group_of(q->thread, (int)r->args.cgroup, r->group);
-	if (r->group_fault)
-		r->group[0] = 0;
 }
 
 /* It waits for the supervisor, in the thread that receives from this source. */

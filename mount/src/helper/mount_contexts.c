@@ -104,8 +104,8 @@ static int check(unsigned command, bool has_key, bool has_value, int number)
 	return is_valid ? 0 : EINVAL;
 }
 
-/* Of all file systems; and of cgroup2, which have no value. They have no effect here. */
-static bool is_known(const char *key, bool has_value)
+/* Of all file systems, whatever is said with them; and of cgroup2, which are flags. They have no effect here. */
+static bool is_known(const char *key, bool is_flag)
 {
 	static const char *const all[] = { "ro", "rw", "sync", "async", "dirsync", "lazytime", "nolazytime", "mand",
 		"nomand" };
@@ -115,7 +115,7 @@ static bool is_known(const char *key, bool has_value)
 	for (size_t i = 0; i < sizeof all / sizeof *all; i++)
 		known |= strcmp(key, all[i]) == 0;
 	for (size_t i = 0; i < sizeof own / sizeof *own; i++)
-		known |= !has_value && strcmp(key, own[i]) == 0;
+		known |= is_flag && strcmp(key, own[i]) == 0;
 	return known;
 }
 
@@ -138,7 +138,7 @@ static bool is_open(pid_t thread, int fd)
 static int set_option(pid_t thread, int context, unsigned command, const __u64 *a)
 {
 	char key[KEY], value[KEY];
-	bool has_text = command == FSCONFIG_SET_STRING, is_plain = has_text || command == FSCONFIG_SET_FLAG;
+	bool has_text = command == FSCONFIG_SET_STRING;
 	int fault = read_text(thread, a[2], key);
 	if (fault == 0 && has_text)
 		fault = read_text(thread, a[3], value);
@@ -147,7 +147,7 @@ static int set_option(pid_t thread, int context, unsigned command, const __u64 *
 	bool is_source = has_text && strcmp(key, "source") == 0;
 	if (fault == 0)
 		fault = make_step(context, is_source ? NAME_SOURCE : SET);
-	return fault || is_source || (is_plain && is_known(key, has_text)) ? fault : EINVAL;
+	return fault || is_source || is_known(key, command == FSCONFIG_SET_FLAG) ? fault : EINVAL;
 }
 
 /* EPERM: a mount needs the right to mount. */

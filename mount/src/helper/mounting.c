@@ -246,8 +246,8 @@ bool mounting_takes(int listener, const struct seccomp_notif *call, int *error)
 	struct wanted w;
 	pid_t thread = (pid_t)call->pid;
 	int fault = read_wanted(call, &w);
-	if (w.flags & (MS_REMOUNT | MS_BIND | MS_MOVE | MS_SHARED | MS_PRIVATE | MS_SLAVE | MS_UNBINDABLE))
-		return false; /* no new file system, and only the arguments' registers say so */
+	if (w.flags & (MS_REMOUNT | MS_BIND | MS_MOVE))
+		return false; /* beside an old mark. Without one the filter lets each mount through that makes no new file system */
 	int version = fault ? 0 : version_of(w.type);
 	if (version == 2)
 		*error = mount_groups(listener, call, w.path);

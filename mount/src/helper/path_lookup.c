@@ -1,5 +1,6 @@
 #include "helper/path_lookup.h"
 #include "channels/roots.h"
+#include "common/beneath.h"
 #include "common/cleanup.h"
 #include "common/kernel.h"
 #include "common/proc_status.h"
@@ -99,9 +100,8 @@ static int open_of(pid_t thread, const char *what)
 	return open(path, O_PATH | O_CLOEXEC);
 }
 
-/* Only the superuser may open the directory of descriptors of a process that is not dumpable, but a process that may
-   trace it may get one. The descriptor is a copy: it shares the offset, and stays open when the program closes its
-   own. */
+/* Only the superuser may open the directory of descriptors of a process that is not dumpable, but a process that may trace it may get
+   one. The descriptor is a copy: it shares the offset, and stays open when the program closes its own. */
 static int take_of(pid_t process, pid_t thread, int fd)
 {
 	cleanup_fd int of_thread = thread ? open_thread(thread) : -1;
@@ -143,8 +143,8 @@ static bool is_same(int a, int b)
 
 static bool is_same_mount(int a, int b)
 {
-	struct statx one, other;
-	return describe(a, STATX_MNT_ID, &one) && describe(b, STATX_MNT_ID, &other) && one.stx_mnt_id == other.stx_mnt_id;
+	struct mount_id one, other;
+	return beneath_identify(a, &one) && beneath_identify(b, &other) && beneath_is_same_mount(&one, &other);
 }
 
 static bool is_link(int fd)

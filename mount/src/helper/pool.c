@@ -90,12 +90,12 @@ static struct pool_source *take_over(void)
 	return NULL;
 }
 
-/* With the lock. Whether no call has begun since the last look, and none lasts. */
+/* With the lock. Whether no call has begun since the last look. One that has lasted since then is taken over (take_over). */
 static bool is_quiet(void)
 {
 	bool quiet = true;
 	for (struct pool_source *s = sources; s < sources + POOL_SOURCES; s++) {
-		quiet &= !s->is_busy && s->seen == s->turn;
+		quiet &= s->seen == s->turn;
 		s->seen = s->turn;
 	}
 	return quiet;

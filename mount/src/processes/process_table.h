@@ -22,7 +22,7 @@ struct process {
 	unsigned char freezing; /* server/freezer.c */
 };
 
-/* A page of the table takes memory once something in it is written. Entry 0 is nobody's, and stays empty. */
+/* A page of the table (tasks.c) takes memory once something in it is written. Entry 0 is nobody's, and stays empty. */
 extern struct process process_table[PIDS];
 
 /* `number`: 0, or what is_pid accepts */

@@ -200,7 +200,8 @@ int run_processes_reserve(pid_t parent, const char *group, bool is_thread, unsig
 /* ---------------------------------------------------------------- births and deaths */
 
 /* A move checks no limit, and process 1 is in the root, which has none: the child was allowed already. */
-/* One operation of two lines: so an undo takes both back. */
+/* One operation of two lines: so an undo takes both back. If the group was removed meanwhile, the child has no place: -ENOENT, and it does
+   not run. */
 static int place(pid_t child, const char *group)
 {
 	int fault = engine_begin();
@@ -222,10 +223,8 @@ static int put(const struct reservation *r, pid_t child, char at[PATH_MAX_SAID],
 	if (*has_parent && (fault = engine_line("fork %d %d", r->parent, child)) != -ESRCH)
 		return fault;
 	fault = r->elsewhere || !r->parent ? -ESRCH : engine_where(r->parent, at, PATH_MAX_SAID);
-	/* If the group of a reservation was removed meanwhile, the child has no place: -ENOENT, and it
-	   does not run. */
 	*has_parent = fault == 0;
-	if (fault == -ENOMEM || (fault = engine_has_group(at)))
+	if (fault == -ENOMEM)
 		return fault;
 	/* the child was allowed already: if a group is full now, or that can't be known, it is placed past the limits */
 	if (*has_parent && is_any_full(at, false) == 0)

@@ -5,6 +5,8 @@
 #include "processes/process_table.h"
 #include <errno.h>
 
+struct process process_table[PIDS];
+
 /* The threads of a process that have not ended are a ring that begins and ends at the process. */
 
 static bool any; /* there was a thread once: until then no list has to be shortened */

@@ -1,4 +1,4 @@
-#include "run/execute.h"
+#include "run/run.h"
 #include <errno.h>
 #include <limits.h>
 #include <stdbool.h>

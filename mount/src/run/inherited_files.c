@@ -1,7 +1,7 @@
-#include "run/inherited_files.h"
 #include "common/cleanup.h"
 #include "common/group_paths.h"
 #include "common/message.h"
+#include "run/run.h"
 #include <fcntl.h>
 #include <limits.h>
 #include <linux/magic.h>

@@ -1,5 +1,5 @@
-#include "run/needs.h"
 #include "common/message.h"
+#include "run/run.h"
 #include <errno.h>
 #include <stdbool.h>
 #include <stddef.h>

@@ -13,10 +13,6 @@
 #include "helper/helper.h"
 #include "helper/mount_root.h"
 #include "processes/host_processes.h"
-#include "run/execute.h"
-#include "run/inherited_files.h"
-#include "run/needs.h"
-#include "run/run_namespaces.h"
 #include "server/freezer.h"
 #include "server/operations.h"
 #include "server/supervisor_questions.h"
@@ -350,7 +346,7 @@ static pid_t start_mount(int ends[2], int *freezer, pid_t *companion)
 static void say_no_answer(pid_t server, int fault)
 {
 	int status = 0;
-	bool ends = fault == ENOTCONN || fault == ECONNABORTED;
+	bool ends = fault == ENOTCONN || fault == ECONNABORTED || fault == ECONNREFUSED;
 	if (!ends || waitpid(server, &status, 0) != server || !WIFEXITED(status) || WEXITSTATUS(status) != REFUSED_HERE)
 		say("the mount does not answer: %s", strerror(fault));
 }

@@ -1,8 +1,8 @@
-#include "run/run_namespaces.h"
 #include "common/cleanup.h"
 #include "common/group_paths.h"
 #include "common/message.h"
 #include "common/own_processes.h"
+#include "run/run.h"
 #include "server/serve.h"
 #include <errno.h>
 #include <fcntl.h>

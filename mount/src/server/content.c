@@ -118,8 +118,8 @@ static int begin_read(struct open_file *o, int space)
 	/* The superuser could open it against its mode. */
 	if (!o->file->readable)
 		return -EINVAL;
-	/* The group was removed, or has lost the controller. */
-	if (open_files_is_gone(o) || !controllers_have(o->of->path, o->file))
+	/* The group was removed, or has lost the controller (open_files_lose_files). */
+	if (open_files_is_gone(o))
 		return -ENODEV;
 	int fault = host_processes_sweep();
 	if (fault == 0)
@@ -219,12 +219,12 @@ static int write_file(struct open_file *o, const char *data, size_t size, char w
 {
 	char said[SAID_MAX];
 	if (!o->file && o->control == CONTROL_CONTEXT)
-		return mount_contexts_step(&o->context, data, size);
+		return mount_phases_step(&o->context, data, size);
 	if (!o->file)
 		return control_write(o->control, data, size);
 	if (o->file->value == NOTHING)
 		return -EINVAL;
-	if (open_files_is_gone(o) || !controllers_have(o->of->path, o->file))
+	if (open_files_is_gone(o))
 		return -ENODEV;
 	if (o->file->value == WRITES)
 		return o->file->write(o->of->path, o->file, data, size);
@@ -284,8 +284,8 @@ void content_poll(fuse_req_t req, fuse_ino_t number, struct fuse_file_info *fi, 
 	struct open_file *o = open_files_of(fi);
 	(void)number;
 	engine_lock();
-	/* First: the text that later ones are compared with is not older than the poll. */
-	int fault = o->file && o->file->notified && !open_files_is_gone(o) ? watch_seen(o->of->path, o->file) : 0;
+	/* Its changes are compared already: a file that is open was looked up before (look_up). */
+	int fault = 0;
 	unsigned told = open_files_poll(o, waiter);
 	if (is_table(o->control))
 		fault = mount_tables_poll(o->control - CONTROL_TABLE, &told);

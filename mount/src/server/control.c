@@ -3,13 +3,13 @@
 #include "engine/engine.h"
 #include "engine/undo_steps.h"
 #include "server/cgroup_namespaces.h"
-#include "server/control_numbers.h"
 #include "server/freezer.h"
 #include "server/mount_tables.h"
 #include "server/operations.h"
 #include "server/watch.h"
 #include <errno.h>
 #include <limits.h>
+#include <number_parser.h>
 #include <stdio.h>
 #include <stdlib.h>
 #include <string.h>
@@ -290,12 +290,37 @@ static int control_exit(unsigned long pid)
 	return fault;
 }
 
+/* How many numbers there are; -EINVAL for more than `most`, and for anything but digits and blanks. */
+int control_numbers(const char *data, size_t size, unsigned long out[], int most)
+{
+	int count = 0;
+	for (size_t i = 0; i < size && data[i];) {
+		if (is_space(data[i])) {
+			i++;
+			continue;
+		}
+		if (count == most)
+			return -EINVAL;
+		/* A number beyond 64 bits is still a number: it becomes the greatest one, which is beyond all that it can mean. */
+		unsigned long n = 0;
+		bool too_large = false;
+		for (; i < size && data[i] && !is_space(data[i]); i++) {
+			if (data[i] < '0' || data[i] > '9')
+				return -EINVAL;
+			if (__builtin_mul_overflow(n, 10UL, &n) || __builtin_add_overflow(n, (unsigned long)(data[i] - '0'), &n))
+				too_large = true;
+		}
+		out[count++] = too_large ? ULONG_MAX : n;
+	}
+	return count;
+}
+
 /* EINVAL for a file that can only be read, and for numbers that it does not take. */
 int control_write(long file, const char *data, size_t size)
 {
 	unsigned long said[2];
 	WANTS_LOCK();
-	int count = control_numbers_read(data, size, said, 2);
+	int count = control_numbers(data, size, said, 2);
 	/* No number means the newest operation. */
 	if (file == UNDO && count >= 0 && count <= 1)
 		return undo(count ? said[0] : 1);

@@ -20,7 +20,7 @@ enum {
 	/* under `run`: the directory /.makhloeum.d, which has what follows too. The helper finds it before the program runs, and nobody
 	   afterwards: so the program can't hold a lock of it, as it can one of the root, by a listing into memory that it holds back */
 	CONTROL_HIDDEN = CONTROL_FILES,
-	/* /.makhloeum.f, of which each open file is a mount that is being made (mount_contexts.h) */
+	/* /.makhloeum.f, of which each open file is a mount that is being made (mount_phases.h) */
 	CONTROL_CONTEXT,
 	/* or the number of a process and of a cgroup namespace: /.makhloeum.PID.SPACE */
 	CONTROL_WHERE
@@ -35,5 +35,9 @@ mode_t control_mode(long file);
 int control_read(long file, int (*keep)(void *, const char *, size_t), void *to);
 /* 0 or -errno. */
 int control_write(long file, const char *data, size_t size);
+
+/* The numbers of a write: decimal, with blanks between, at most `most` of them. Returns how many there are, or -EINVAL. A number that
+   is too large is replaced by the greatest. It needs no lock. */
+int control_numbers(const char *data, size_t size, unsigned long out[], int most);
 
 #endif

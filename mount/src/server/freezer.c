@@ -85,7 +85,7 @@ int freezer_text(const char *group, const struct file *file, const char **text, 
 	/* With the lock. The engine's text always says `frozen 0`, which is as long as what replaces
 	   it. */
 	static char own[64];
-	if (!freezing || strcmp(file->name, "cgroup.events") != 0 || size < 2 || size >= sizeof own)
+	if (!freezing || strcmp(file->name, "cgroup.events") != 0 || size >= sizeof own)
 		return 0;
 	memcpy(own, *text, size);
 	own[size] = 0;

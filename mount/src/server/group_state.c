@@ -121,7 +121,6 @@ void group_state_lose(const char *group)
 	watch_forget(r);
 	values_forget(r, ~0U);
 	freezer_forget(r);
-	r->subtree = 0;
 	tdelete(r, &paths, by_path);
 	r->gone = true;
 	group_state_tidy(r);

@@ -35,7 +35,7 @@ static size_t count;
 static struct {
 	long number;
 	int fault;
-} refused; /* the last one for which there was no room */
+} refused = { .number = -1 }; /* the last one for which there was no room */
 /* It belongs to supervisor_questions.c. */
 static int bells = -1; /* an epoll set */
 /* The mount is being unmounted: libfuse's session may be gone. */

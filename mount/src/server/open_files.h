@@ -3,7 +3,7 @@
 #define OPEN_FILES_H
 
 #include "server/group_state.h"
-#include "server/mount_contexts.h"
+#include "server/mount_phases.h"
 #include <fuse3/fuse_lowlevel.h>
 
 enum { A_DIRECTORY = -1 }; /* as `control` */

@@ -13,6 +13,7 @@
 #include <fuse3/fuse_log.h>
 #include <fuse3/fuse_lowlevel.h>
 #include <limits.h>
+#include <linux/fuse.h>
 #include <signal.h>
 #include <stdatomic.h>
 #include <stdio.h>
@@ -87,8 +88,8 @@ static struct fuse_session *make_session(void)
 	return session;
 }
 
-/* Until its first answer nobody can use the mount, and an answer that cannot be written is none.
-   Several threads may answer; one of them calls when_ready. */
+/* Until its first answer nobody can use the mount. If that is an errno, or cannot be written, nobody ever can. Several threads may
+   answer; one of them calls when_ready. */
 static atomic_bool has_begun;
 static void (*when_ready)(void);
 
@@ -112,16 +113,18 @@ static ssize_t read_request(int from, void *request, size_t size, void *unused)
 
 /* For the hook alone, which gets no session. */
 static struct fuse_session *own_session;
-static int write_fault;
+static int first_fault;
 
 static ssize_t write_reply(int to, struct iovec *reply, int parts, void *unused)
 {
+	const struct fuse_out_header *head = reply->iov_base;
 	(void)unused;
 	ssize_t n = writev(to, reply, parts);
-	if (n >= 0)
+	int fault = n < 0 ? errno : -head->error;
+	if (fault == 0)
 		begin();
 	else if (!atomic_load(&has_begun)) { /* one thread answers the first request, and nobody sends another before */
-		write_fault = errno;
+		first_fault = fault;
 		fuse_session_exit(own_session);
 	}
 	return n;
@@ -135,7 +138,7 @@ static bool use_own_io(struct fuse_session *session)
 }
 #else
 /* There is no such hook in older libraries: the message may still be printed, but the status is the same. */
-static int write_fault;
+static int first_fault;
 
 static bool use_own_io(struct fuse_session *session)
 {
@@ -210,10 +213,11 @@ int serve(const char *where, void (*ready)(void))
 	fuse_session_unmount(session);
 	fuse_session_destroy(session);
 	engine_end();
-	bool failed = write_fault || (ended < 0 && ended != -ECONNABORTED);
+	/* A number above 0 is that of a signal, all of which are an end as wanted; or ENOMEM, which is that of no signal handled here. */
+	bool failed = first_fault || (ended < 0 && ended != -ECONNABORTED) || ended == ENOMEM;
 	if (!failed || atomic_load(&has_begun))
 		return failed;
-	say("the file system cannot be served: %s", strerror(write_fault ? write_fault : fault));
+	say("the file system cannot be served: %s", strerror(first_fault ? first_fault : fault));
 	return REFUSED;
 }
 

@@ -2,10 +2,11 @@
 
    The folder server: the operations of the file system, and what they show and remember of each group.
    Who runs it: the threads of the server, of which a run has one for requests and one for the supervisor's questions. A thread waits
-   for its next request, for the engine's lock, and for a write to the files of --trace and --answers. Whoever holds the lock waits for these writes and for nothing else: it looks up no path (the helper opens mount
-   tables, values/machine.c reads the machine before), and makes no request to its own mount, which only these threads answer. A look-up
-   that a request needs comes before the lock. (With --adopt, where no supervisor waits for the server, the lock is held while /proc is
-   read.) What a function needs the lock for is checked in the test build (WANTS_LOCK).
+   for its next request, for the engine's lock, and for a write to the files of --trace and --answers. Whoever holds the lock waits for
+   these writes and for nothing else: it looks up no path (the helper opens mount tables, values/machine.c reads the machine before), and
+   makes no request to its own mount, which only these threads answer. A look-up that a request needs comes before the lock. (With
+   --adopt, where no supervisor waits for the server, the lock is held while /proc is read.) The test build checks that functions which
+   need the lock have it (WANTS_LOCK).
    While the companion is busy, a thread that tells it about changes waits for it, without the lock. */
 #ifndef SERVE_H
 #define SERVE_H

@@ -328,7 +328,7 @@ struct thread *births_appeared(pid_t child)
 		return NULL; /* it was killed */
 	if (!b) {
 		b = find((unsigned)registers_ticket(&here));
-		t = b && b->runs && !b->told ? settle(b, child) : NULL;
+		t = b && b->runs ? settle(b, child) : NULL;
 	}
 	if (!t) { /* nobody asked for it, or it came too late */
 		kill(child, SIGKILL); /* it cannot fail: it was not waited for */

@@ -4,13 +4,14 @@
 #include "supervisor/calls.h"
 #include "supervisor/frozen_threads.h"
 #include "supervisor/link.h"
-#include "supervisor/restarts.h"
+#include "supervisor/registers.h"
 #include "supervisor/signals.h"
 #include "supervisor/threads.h"
 #include "supervisor/tracee.h"
 #include <errno.h>
 #include <signal.h>
 #include <sys/ptrace.h>
+#include <sys/syscall.h>
 #include <sys/wait.h>
 #include <unistd.h>
 
@@ -30,6 +31,62 @@ bool tracer_hold(pid_t pid)
 		return false;
 	errno = EAGAIN;
 	return births_first(pid);
+}
+
+/* ---------------------------------------------------------------- calls that a signal interrupts although no handler runs */
+
+/* The kernel's own number, between the end of a call and the return to the program: if a handler runs, the call returns EINTR, and
+   else it begins again. The program never sees it. */
+enum { ERESTARTNOHAND = 514 };
+
+/* The calls that the kernel ends with EINTR, not with a number of its own, and that have done nothing then. */
+static bool may_begin_again(long call)
+{
+	switch (call) {
+#ifdef SYS_epoll_wait
+	case SYS_epoll_wait:
+#endif
+	case SYS_epoll_pwait:
+	case SYS_epoll_pwait2:
+	case SYS_read:
+	case SYS_readv:
+	case SYS_recvfrom:
+	case SYS_recvmsg:
+	case SYS_recvmmsg:
+	case SYS_write:
+	case SYS_writev:
+	case SYS_sendto:
+	case SYS_sendmsg:
+	case SYS_sendmmsg:
+	case SYS_sendfile:
+	case SYS_splice:
+	case SYS_connect:
+	case SYS_accept:
+	case SYS_accept4:
+	case SYS_semop:
+	case SYS_semtimedop:
+	case SYS_rt_sigtimedwait:
+	case SYS_io_getevents:
+	case SYS_io_pgetevents:
+		return true;
+	default:
+		return false;
+	}
+}
+
+/* At the stop before this signal is delivered: a call that has ended with EINTR begins again, unless a handler runs. A tracer is told
+   of ignored signals too, so the kernel does not drop them where they are sent: they interrupt the call first. After a stop by a signal
+   these calls end with EINTR in the kernel too. */
+static void begin_again(struct thread *t, int signal)
+{
+	struct registers now;
+	long call;
+	bool was_stopped = t->was_stopped;
+	t->was_stopped = signals_is_stop(signal) || (was_stopped && signal != SIGCONT);
+	if (signals_is_stop(signal) || was_stopped)
+		return;
+	if (registers_read(t->id, &now) && registers_was_interrupted(&now, &call) && may_begin_again(call))
+		(void)registers_set_result(t->id, -ERESTARTNOHAND); /* it fails only if the thread was killed */
 }
 
 /* ---------------------------------------------------------------- stops */
@@ -132,7 +189,7 @@ static void on_stop_of(pid_t id, struct thread *t, int status)
 	if (status == (SIGTRAP | 0x80))
 		calls_after(t);
 	else {
-		restarts_call(t, signal);
+		begin_again(t, signal);
 		tracee_run(id, t->process == program ? signals_once(id, signal) : signal);
 	}
 }

@@ -4,7 +4,6 @@
 #include "values/files.h"
 #include <fcntl.h>
 #include <stdio.h>
-#include <string.h>
 
 static const char *const paths[MACHINE_LISTS] = {
 	[CPUS_POSSIBLE] = "/sys/devices/system/cpu/possible",
@@ -26,7 +25,6 @@ static void read_list(const char *path, struct number_ranges *out)
 	/* Without the file the list has the number 0 alone. */
 	if (proc_status_text(path, line, sizeof line) < 0)
 		snprintf(line, sizeof line, "0");
-	line[strcspn(line, "\n")] = 0;
 	if (number_ranges_read(line, NUMBER_RANGES_MAX, out) || number_ranges_is_empty(out))
 		(void)number_ranges_read("0", NUMBER_RANGES_MAX, out); /* it is a list */
 }

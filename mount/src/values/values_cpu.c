@@ -230,7 +230,7 @@ int cpu_stat_show(const char *group, const struct file *file, char out[TEXT_ROOM
 {
 	static const struct file of_controller = { .controller = HAS_CPU };
 	(void)file;
-	bool has_more = controllers_kept() & HAS_CPU && controllers_have(group, &of_controller);
+	bool has_more = controllers_have(group, &of_controller);
 	snprintf(out, TEXT_ROOM, "usage_usec 0\nuser_usec 0\nsystem_usec 0\n%s",
 		has_more ? "nr_periods 0\nnr_throttled 0\nthrottled_usec 0\nnr_bursts 0\nburst_usec 0\n" : "");
 	return 0;

@@ -36,11 +36,10 @@ int cpuset_take_list(const char *group, const struct file *file, const char *sai
 static void narrow(const char *group, const char *name, struct number_ranges *effective)
 {
 	struct number_ranges own, left = *effective;
-	if (number_ranges_read(values_kept(group, name), NUMBER_RANGES_MAX, &own) == 0 && !number_ranges_is_empty(&own)) {
-		number_ranges_keep_common(&left, &own);
-		if (!number_ranges_is_empty(&left))
-			*effective = left;
-	}
+	(void)number_ranges_read(values_kept(group, name), NUMBER_RANGES_MAX, &own); /* it is a list: it was accepted */
+	number_ranges_keep_common(&left, &own);
+	if (!number_ranges_is_empty(&left))
+		*effective = left;
 }
 
 /* It is made at each read: a change above takes effect at once. */

@@ -251,19 +251,29 @@ def statuses():
     # the program with sanitizers is one that looks for leaks by ptrace
     leaks = dict(os.environ, ASAN_OPTIONS="detect_leaks=0")
     same("one that would trace itself", ran("run", PROGRAM, "--version", env=leaks), ran("--version"))
+    space = ("--user", "--map-current-user", "--mount", "--pid", "--fork", "--kill-child", "--mount-proc", PROGRAM)
+    got = ran(*space, "run", "sh", "-c", "echo $PPID; exit 3", program="unshare")
+    same("of the first process of a namespace", got, (3, "1\n", ""))
     same("its words", ran("run", "sh", "-c", 'echo "$0|$@|$#"', "a", "b c", "", "*")[1], "a|b c  *|3\n")
 
 
 def without_fuse():
-    """What is said where there is no /dev/fuse, and by mount of its directory."""
+    """What is said where there is no /dev/fuse, or none that may be used, and by mount of its directory."""
     at = folder("no-fuse")
-    script = """mkdir "$1/dev" && touch "$1/dev/null" && mount --bind /dev/null "$1/dev/null" && mount --rbind "$1/dev" /dev
+    script = """mkdir "$1/dev" && touch "$1/dev/null" && mount --bind /dev/null "$1/dev/null" && %s && mount --rbind "$1/dev" /dev
 shift; exec "$@" """
-    words = ["unshare", "-Urm", "sh", "-c", script, "sh", HOME]
-    for start in (("mount", at), ("run", "true")):
-        got = ran(*words[1:], PROGRAM, *start, program=words[0])
-        said = "makhloeum: this machine does not allow FUSE: /dev/fuse: No such file or directory\n"
-        same("%s without /dev/fuse" % start[0], got, (2, "", said))
+    closed = 'touch "$1/dev/fuse" && chmod %s "$1/dev/fuse"'
+    without_rights = ("setpriv", "--bounding-set", "-all", "--inh-caps", "-all")
+    for makes, before, start, why in (
+        ("true", (), ("mount", at), "No such file or directory"),
+        ("true", (), ("run", "true"), "No such file or directory"),
+        (closed % "0444", without_rights, ("mount", at), "Permission denied"),
+        (closed % "0222", without_rights, ("mount", at), "Permission denied"),
+    ):
+        words = ["unshare", "-Urm", "sh", "-c", script % makes, "sh", HOME]
+        got = ran(*words[1:], *before, PROGRAM, *start, program=words[0])
+        said = "makhloeum: this machine does not allow FUSE: /dev/fuse: %s\n" % why
+        same("%s, /dev/fuse made by %s" % (start[0], makes), got, (2, "", said))
         shutil.rmtree(os.path.join(HOME, "dev"))
     file = os.path.join(HOME, "file")
     open(file, "w").close()

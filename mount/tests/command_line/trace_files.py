@@ -15,10 +15,10 @@ import tty
 
 sys.path.insert(0, os.path.dirname(os.path.dirname(os.path.realpath(__file__))))
 from support import CGREPLAY, CGSHELL, PATIENCE, PROGRAM, Beside, Mount, error_of, finish, read, same, status_within
-from support import step, until, write
+from support import TRACE_MAX, step, until, write
 
 ME = os.path.realpath(__file__)
-TRACE_MAX = 16777216
+PATIENT = os.path.join(os.path.dirname(PROGRAM), "patient.so")  # only with the plain build
 
 
 def refused(words, fds=()):
@@ -85,6 +85,11 @@ def modes():
     same("the mode of a trace", stat.S_IMODE(os.stat(m.trace).st_mode), 0o600)
     same("of answers", stat.S_IMODE(os.stat(m.answers).st_mode), 0o600)
     m.end()
+    trace = os.path.join(tempfile.mkdtemp(), "trace")
+    os.close(os.open(trace, os.O_CREAT, 0o222))
+    m = Mount(trace=trace)
+    same("one that may only be written takes a line", error_of(os.mkdir, m.path("a")), "ok")
+    m.end(replayed=False)
 
 
 def times():
@@ -160,12 +165,21 @@ def recovers(what, m, stop, go_on):
         go_on()
         same("nothing has changed", (snapshot(m), open(m.trace).read(), os.path.getsize(m.answers)), before)
         same("then it is done", error_of(*command), "ok")
-    stop()
-    step(
-        "a refused fork is refused, and not counted",
-        error_of(write, m.control("fork"), b"1 2\n") in ("ENOSPC", "EFBIG"),
-    )
-    go_on()
+    os.mkdir(m.path("full"))
+    write(m.control("fork"), b"1 5\n")
+    write(m.path("full", "cgroup.procs"), b"5\n")
+    write(m.path("full", "pids.max"), b"1\n")
+    shown = lambda: (read(m.path("full", "pids.events")), read(m.control("depth")))
+    for name, command, error, event in (
+        ("a fork that a limit refuses", (write, m.control("fork"), b"5 6\n"), "EAGAIN", b"max 1\n"),
+        ("its undo", (write, m.control("undo"), b"1\n"), "ok", b"max 0\n"),
+    ):
+        before = shown()
+        stop()
+        got = error_of(*command)
+        go_on()
+        same("%s: %s is not counted" % (what, name), (got in ("ENOSPC", "EFBIG"), shown()), (True, before))
+        same("then it is", (error_of(*command), shown()[0]), (error, event))
     m.end()
 
 
@@ -203,7 +217,7 @@ def without_history():
     for limit in limits:
         write(limit, b"7")
     recorded, wrong = 6, []
-    while recorded < 1016:
+    while recorded < 1020:
         write(m.control("fork"), b"1 2")
         write(m.control("exit"), b"2")
         recorded += 2
@@ -340,7 +354,7 @@ def small_device():
 
 
 def long_trace():
-    """cgreplay accepts 16 MiB; a longer trace is reported once, and cgshell replays it."""
+    """cgreplay accepts up to TRACE_MAX bytes; a longer trace is reported once, and cgshell replays it."""
     m = Mount()
     deep = m.at
     for _ in range(16):
@@ -350,7 +364,7 @@ def long_trace():
     fd = os.open("pids.max", os.O_RDONLY)
     while os.path.getsize(m.trace) <= TRACE_MAX - 5000:
         os.pread(fd, 1, 0)
-    same("nothing is said up to 16 MiB", m.words(), "")
+    same("nothing is said of a trace that it accepts", m.words(), "")
     for _ in range(20):
         os.pread(fd, 1, 0)
     step("the trace is longer", os.path.getsize(m.trace) > TRACE_MAX)
@@ -417,6 +431,34 @@ def nobody_listens():
     shutil.rmtree(home)
 
 
+def ends_unheard():
+    """A mount that ends before the warning could be read waits a while for who reads it, and here for an hour."""
+    home, (r, w) = tempfile.mkdtemp(), os.pipe()
+    at, trace = os.path.join(home, "at"), os.path.join(home, "trace")
+    filler = fcntl.fcntl(w, fcntl.F_SETPIPE_SZ, 4096) * b"x"
+    os.write(w, filler)
+    os.mkdir(at)
+    words = [PROGRAM, "mount", "--foreground", "--trace", trace, at]
+    p = subprocess.Popen(words, stderr=w, env=dict(os.environ, LD_PRELOAD=PATIENT))
+    os.close(w)
+    step("it is mounted", until(lambda: os.path.ismount(at)))
+    deep = at + 16 * ("/" + 240 * "d")
+    os.makedirs(deep)
+    fd = os.open(deep + "/pids.max", os.O_RDONLY)
+    while os.path.getsize(trace) <= TRACE_MAX:
+        os.pread(fd, 1, 0)
+    os.close(fd)
+    step("it can be unmounted", until(lambda: subprocess.run(["fusermount3", "-u", at], stderr=-3).returncode == 0))
+    step("it does not end", not until(lambda: p.poll() is not None, 0.5))
+    said = b""
+    while not said.endswith(b"\n"):
+        said += Beside(os.read, r, 8192).result() or b"nothing\n"
+    same("it is said", said[len(filler) :].count(b"cgshell < %s" % trace.encode()), 1)
+    same("then it ends", status_within(p), 0)
+    os.close(r)
+    shutil.rmtree(home)
+
+
 if sys.argv[1:] == ["small"]:
     small_device()
     finish()
@@ -434,8 +476,10 @@ for test in (
     terminal,
     long_trace,
     nobody_listens,
+    *((ends_unheard,) if os.path.exists(PATIENT) else ()),
 ):
-    test()
+    if test.__name__ in sys.argv[1:] or not sys.argv[1:]:
+        test()
 ran = subprocess.run(["unshare", "-Urm", sys.executable, ME, "small"], timeout=6 * PATIENCE)
 same("on a small device", ran.returncode, 0)
 finish()

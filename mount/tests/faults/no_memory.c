@@ -1,8 +1,8 @@
 /* For LD_PRELOAD: refuses one allocation of the program MAKHLOEUM, or that one and all after it. NO_MEMORY is a file that all
    its processes and the test share: how many allocations are made until one is refused (0: none is; -1: all are), how many
-   were refused, and whether all after it are. Two of libfuse are never
-   refused, since without them it ends the mount: for each of its threads a buffer, which is larger than LARGE, and a context of
-   CONTEXT bytes. */
+   were refused, whether all after it are, and the size of those that count (0: any). Memory that processes share is one too. Two of
+   libfuse are never refused, since without them it ends the mount: for each of its threads a buffer, which is larger than LARGE, and a
+   context of CONTEXT bytes. */
 #include <errno.h>
 #include <fcntl.h>
 #include <stdatomic.h>
@@ -10,6 +10,7 @@
 #include <stdlib.h>
 #include <string.h>
 #include <sys/mman.h>
+#include <sys/syscall.h>
 #include <unistd.h>
 
 enum { LARGE = 512 * 1024, CONTEXT = 48, PATH = 4096 };
@@ -19,7 +20,7 @@ void *__libc_calloc(size_t count, size_t size);
 void *__libc_realloc(void *old, size_t size);
 
 static struct shared {
-	atomic_long left, refused, all;
+	atomic_long left, refused, all, size;
 } none, *shared = &none;
 
 __attribute__((constructor)) static void begin(void)
@@ -41,7 +42,9 @@ __attribute__((constructor)) static void begin(void)
 /* The test may end the refusals at any moment. */
 static bool refuses(size_t size)
 {
-	long left = size > LARGE ? 0 : atomic_load(&shared->left), next;
+	long left = size > LARGE ? 0 : atomic_load(&shared->left), next, wanted = atomic_load(&shared->size);
+	if (wanted && size != (size_t)wanted)
+		return false;
 	do
 		next = left == 1 ? -(atomic_load(&shared->all) != 0) : left - 1;
 	while (left > 0 && !atomic_compare_exchange_weak(&shared->left, &left, next));
@@ -65,4 +68,11 @@ void *calloc(size_t count, size_t size)
 void *realloc(void *old, size_t size)
 {
 	return refuses(size) ? NULL : __libc_realloc(old, size);
+}
+
+void *mmap(void *at, size_t size, int protection, int flags, int fd, off_t from)
+{
+	if (flags == (MAP_SHARED | MAP_ANONYMOUS) && refuses(size))
+		return MAP_FAILED;
+	return (void *)syscall(SYS_mmap, at, size, protection, flags, fd, from);
 }

@@ -5,6 +5,8 @@ import ctypes
 import errno
 import mmap
 import os
+import re
+import resource
 import select
 import signal
 import struct
@@ -28,16 +30,17 @@ class Memory:
     def __init__(self, file=None):
         if file is None:
             handle, file = tempfile.mkstemp()
-            os.write(handle, bytes(24))
+            os.write(handle, bytes(32))
             os.close(handle)
             os.chmod(file, 0o666)
         self.file = file
         with open(file, "r+b") as shared:
-            self.shared = mmap.mmap(shared.fileno(), 24)
+            self.shared = mmap.mmap(shared.fileno(), 32)
 
-    def refuse(self, nth, rest=False):
-        """The nth, and with `rest` all after it."""
-        struct.pack_into("<qqq", self.shared, 0, nth, 0, rest)
+    def refuse(self, nth, rest=False, size=0):
+        """The nth, and with `rest` all after it; with `size` of those of so many bytes."""
+        struct.pack_into("<qqqq", self.shared, 0, 0, 0, rest, size)
+        struct.pack_into("<q", self.shared, 0, nth)
 
     def refused(self):
         """Ends it. How many were refused."""
@@ -153,6 +156,15 @@ def numbers():
         lambda: outcome(lambda: os.getxattr(b, "user.y")),
         lambda: outcome(lambda: os.removexattr(b, "user.y")),
     )
+    other = b + "/cgroup.procs"
+    os.setxattr(other, "user.z", b"old")
+    each(
+        "another value of an attribute",
+        lambda: os.setxattr(other, "user.z", b"new"),
+        lambda: os.getxattr(other, "user.z"),
+        lambda: os.setxattr(other, "user.z", b"old"),
+    )
+    begun_again(b + "/pids.max")
     each("a mkdir", lambda: os.mkdir(m.path("c")), state, lambda: outcome(lambda: os.rmdir(m.path("c"))))
     long = m.path("c" * 200)
     each("a mkdir of a long name", lambda: os.mkdir(long), state, lambda: outcome(lambda: os.rmdir(long)))
@@ -175,6 +187,14 @@ def numbers():
     each("an undo", put(m.control("undo"), b"1"), state, back((b + "/pids.max", b"6"), (b + "/pids.max", b"5")))
     # a populated child: then memory may not be enabled, and a group with processes is no inner group
     write(m.path("cgroup.subtree_control"), b"+memory")
+    new = m.path("n")
+    each(
+        "enabling in a new group",
+        put(new + "/cgroup.subtree_control", b"+pids"),
+        lambda: read(new + "/cgroup.subtree_control"),
+        lambda: (outcome(lambda: os.rmdir(new)), os.mkdir(new)),
+    )
+    os.rmdir(new)
     each("enabling with processes below", put(b + "/cgroup.subtree_control", b"+memory"), state)
     each(
         "enabling cpu in a group with processes",
@@ -206,9 +226,54 @@ def numbers():
         ),
     )
     wakes(m, b)
+    counted(m, b)
     step("it is unmounted", m.unmounted())
     same("the process ends with the mount", m.ended(), 0)
     step("cgreplay gives the same answers", m.replay())
+
+
+def begun_again(file):
+    """A text of which a part was read. Without memory for a new one it can still be read to its end."""
+    fd = os.open(file, os.O_RDONLY)
+
+    def again():
+        write(file, b"56")
+        os.pread(fd, 1, 0)
+        write(file, b"78")
+
+    def rest():
+        text = os.pread(fd, 9, 1)
+        again()
+        return text
+
+    again()
+    each("a read from the start", lambda: os.pread(fd, 1, 0), rest, again)
+    os.close(fd)
+    write(file, b"5")
+
+
+def counted(m, group):
+    """Whoever polls is told of a refused fork that was counted, whatever memory was refused in it."""
+    outcome(lambda: write(m.control("fork"), b"1 8"))
+    write(group + "/cgroup.procs", b"8")
+    write(group + "/pids.max", b"1")
+    fd = os.open(group + "/pids.events", os.O_RDONLY)
+    poller = select.poll()
+    poller.register(fd, select.POLLPRI)
+    wrong, told = [], 0
+    for nth, rest in places():
+        os.pread(fd, 100, 0)
+        memory.refuse(nth, rest)
+        got = outcome(lambda: write(m.control("fork"), b"8 9"))
+        refused = memory.refused()
+        told += got == "EAGAIN"
+        if got not in FORKS or (poller.poll(0) != []) != (got == "EAGAIN"):
+            wrong.append((nth, rest, got))
+        if not refused and not rest:
+            break
+    os.close(fd)
+    same("refused forks of which nobody is told", wrong[:3], [])
+    step("they were refused", told > 1 and 1 < nth < MOST - 1, (told, nth))
 
 
 def wakes(m, group):
@@ -244,6 +309,88 @@ def wakes(m, group):
                 break
     os.close(fd)
     same("whoever polls is woken", missed, [])
+
+
+# ---------------------------------------------------------------- starts
+
+SENTENCE = rb"makhloeum: [^\n]+\n"
+
+
+def started(*words):
+    """What a start of makhloeum comes to: its status, its output, and what it says beside libfuse."""
+    p = subprocess.Popen(
+        [PROGRAM, *words],
+        stdout=subprocess.PIPE,
+        stderr=subprocess.PIPE,
+        env=dict(os.environ, LD_PRELOAD=LIBRARY),
+        start_new_session=True,
+    )
+    try:
+        out, said = p.communicate(timeout=PATIENCE)
+    except subprocess.TimeoutExpired:
+        os.killpg(p.pid, signal.SIGKILL)
+        out, said = p.communicate()
+    return p.returncode, out, b"".join(line for line in said.splitlines(True) if not line.startswith(b"fuse: "))
+
+
+def each_start(name, is_right, *words):
+    """A start with each allocation refused is right, or has status 2 and says why in its last sentence. Where the C library has no memory
+    to end a thread, it ends the server of a mount."""
+    wrong, failed = [], 0
+    for nth, rest in places():
+        memory.refuse(nth, rest)
+        status, out, said = got = started(*words)
+        refused = memory.refused()
+        fails = refused and (status == 2 or (status == 1 and b"pthread_cancel" in said)) and out == b""
+        failed += fails
+        if not is_right(refused, *got) and not (fails and re.fullmatch(SENTENCE, said[said.find(b"makhloeum: ") :])):
+            wrong.append((nth, rest, *got))
+        if not refused and not rest:
+            break
+    same("%s: %d refused, %d failed" % (name, nth - 1, failed), wrong[:3], [])
+    step("%s: they were refused" % name, 1 < nth < MOST - 1, nth)
+
+
+def starts():
+    """A run and a mount. Once the program of a run has begun, it hears of what is refused later."""
+    keep, at = ("--control", "--keep", "memory,cpu,io,cpuset"), tempfile.mkdtemp()
+
+    def of_run(refused, *got):
+        heard = refused and got[0] == 1 and b"cat: /proc/self/cgroup: Cannot allocate memory" in got[2]
+        return heard or got == (0, b"0::/\n", b"")
+
+    def of_mount(_, *got):
+        """A mount that is there works."""
+        names = got[0] == 0 and outcome(lambda: (os.mkdir(at + "/a"), sorted(os.listdir(at + "/a")))[1][:1])
+        while " %s " % at in open("/proc/self/mounts").read():
+            subprocess.run(["fusermount3", "-u", at], stderr=subprocess.DEVNULL)
+        return (*got, names) == (0, b"", b"", ["cgroup.controllers"])
+
+    each_start("a run", of_run, "run", *keep, "cat", "/proc/self/cgroup")
+    each_start("a mount", of_mount, "mount", *keep, at)
+    os.rmdir(at)
+
+
+def beginnings():
+    """A mount that cannot get its signal handlers, and so ends before its threads begin, whose allocations are libfuse's. One that is
+    refused before libfuse begins ends it at once; but for the first, which the C library doesn't need."""
+    at, wrong, whys = tempfile.mkdtemp(), [], []
+    words = [PROGRAM, "mount", at, "--keep", "memory,cpu,io,cpuset"]
+    preload = {"LD_PRELOAD": "%s %s" % (LIBRARY, os.path.join(os.path.dirname(LIBRARY), "no_signals.so"))}
+    for nth in range(1, MOST):
+        memory.refuse(nth)
+        ran = subprocess.run(words, stderr=subprocess.PIPE, timeout=PATIENCE, env=dict(os.environ, **preload))
+        refused = memory.refused()
+        said = [line for line in ran.stderr.decode().splitlines() if not line.startswith("fuse: ")]
+        if (ran.returncode, len(said), os.path.ismount(at)) != (2, 1, False):
+            wrong.append((nth, ran.returncode, said))
+        whys.append(said[-1] if said else "")
+        if not refused:
+            break
+    same("a beginning with each of %d refused" % (nth - 1), wrong[:3], [])
+    own = whys[1 : next((i for i, why in enumerate(whys) if "no file system can be mounted" in why), 0)]
+    same("before libfuse begins", set(own), {"makhloeum: out of memory"})
+    os.rmdir(at)
 
 
 # ---------------------------------------------------------------- real processes of a mount
@@ -380,11 +527,30 @@ def inside_texts():
     each("an open", lambda: os.close(os.open(AT + "/a/b/cgroup.procs", os.O_RDONLY)))
 
 
+def inside_tables():
+    """The server has room for 32 tables of mounts. One that could not be opened takes none of it, or only until 1,024 others came."""
+
+    def fails(nth):
+        memory.refuse(nth)
+        got = outcome(lambda: os.close(os.open("/proc/self/mountinfo", os.O_RDONLY)))
+        return memory.refused() and got == "ENOMEM"
+
+    for nth in reversed([n for n in range(1, 30) if fails(n)]):  # the last first, after which nothing stays
+        for _ in range(40):
+            fails(nth)
+    for _ in range(1100):
+        outcome(lambda: read("/proc/self/mountinfo"))
+    held = []
+    got = {outcome(lambda: held.append(os.open("/proc/self/mountinfo", os.O_RDONLY))) for _ in range(28)}
+    same("then there is room for 28 that are open", got, {None})
+
+
 def fork():
+    """The status of a child that ends at once."""
     pid = os.fork()
     if pid == 0:
         os._exit(0)
-    os.waitpid(pid, 0)
+    return os.waitpid(pid, 0)[1]
 
 
 def clone_into(fd):
@@ -394,7 +560,7 @@ def clone_into(fd):
         libc._exit(0)
     if pid < 0:
         raise OSError(ctypes.get_errno(), "clone3")
-    os.waitpid(pid, 0)
+    return os.waitpid(pid, 0)[1]
 
 
 def inside_forks():
@@ -409,6 +575,30 @@ def inside_forks():
 
     each("a fork", fork, state, faults=FORKS)
     each("a clone3 into a group", lambda: clone_into(fd), state, faults=FORKS)
+    os.close(fd)
+
+
+STEPS, STEP = 64, 24  # how many steps of several commands have room at first, and the bytes of one
+
+
+def inside_steps():
+    """A child in another group is two commands, which are undone as one. Without room for such a step there is no child."""
+    os.mkdir(AT + "/a")
+    fd = os.open(AT + "/a", os.O_RDONLY)
+
+    def state():
+        until(lambda: read(AT + "/a/pids.current") == b"0\n")
+        return int(read(AT + "/.makhloeum/depth"))
+
+    before = state()
+    for _ in range(STEPS):
+        clone_into(fd)
+    same("a birth and an exit of each", state(), before + 2 * STEPS)
+    memory.refuse(1, True, 2 * STEPS * STEP)
+    got = outcome(lambda: clone_into(fd))
+    step("room for more is refused", memory.refused() > 0)
+    same("one more", (got in FORKS, state()), (True, before + 2 * STEPS))
+    same("once there is room", (clone_into(fd), state()), (0, before + 2 * STEPS + 2))
     os.close(fd)
 
 
@@ -479,22 +669,39 @@ def inside_zombies():
 
 
 def inside_domains():
-    """Processes may enter the groups below one with only zombies. Without memory to tell a zombie the move fails by that."""
-    write(AT + "/cgroup.subtree_control", b"+pids +cpu")
-    os.makedirs(AT + "/a/b")
+    """Zombies are no processes of a group, for the rules of controllers. Without memory to tell a zombie a call fails by that."""
+    write(AT + "/cgroup.subtree_control", b"+pids +cpu +memory")
+    for g in ("/a/b", "/c/d", "/e/f"):
+        os.makedirs(AT + g)
     write(AT + "/a/cgroup.subtree_control", b"+pids +cpu")
-    pid = os.fork()
-    if pid == 0:
-        write(AT + "/a/cgroup.procs", b"0")
-        os._exit(0)
-    os.waitid(os.P_PID, pid, os.WEXITED | os.WNOWAIT)
-    each(
-        "a move below a zombie",
-        lambda: write(AT + "/a/b/cgroup.procs", b"0"),
-        lambda: read("/proc/self/cgroup"),
-        lambda: write(AT + "/cgroup.procs", b"0"),
-    )
-    os.waitpid(pid, 0)
+    dead = []
+    for g in ("/a", "/c/d", "/e"):
+        dead.append(os.fork())
+        if dead[-1] == 0:
+            write(AT + g + "/cgroup.procs", b"0")
+            os._exit(0)
+        os.waitid(os.P_PID, dead[-1], os.WEXITED | os.WNOWAIT)
+    where = lambda: read("/proc/self/cgroup")
+    back = lambda: write(AT + "/cgroup.procs", b"0")
+    enabled = lambda: texts(AT, ("a", "c", "e"), ("cgroup.subtree_control",))
+    enable = lambda group, words: lambda: write(AT + group + "/cgroup.subtree_control", words)
+    each("a move below a zombie", lambda: write(AT + "/a/b/cgroup.procs", b"0"), where, back)
+    each("the type of a zombie's group", lambda: read(AT + "/a/cgroup.type"))
+    each("the type below it", lambda: read(AT + "/a/b/cgroup.type"))
+    each("memory beside a zombie", enable("/a", b"+memory"), enabled, enable("/a", b"-memory"))
+    each("cpu beside a zombie", enable("/e", b"+cpu"), enabled, enable("/e", b"-cpu"))
+    write(AT + "/c/cgroup.subtree_control", b"+cpu")
+    each("a move above a zombie", lambda: write(AT + "/c/cgroup.procs", b"0"), where, back)
+    write(AT + "/c/cgroup.subtree_control", b"-cpu")
+    lives = [subprocess.Popen(["sleep", "600"]) for _ in range(2)]
+    for group, process in zip(("/c", "/c/d"), lives):
+        write(AT + group + "/cgroup.procs", b"%d" % process.pid)
+    each("cpu in a group with a process, above another", enable("/c", b"+cpu"), enabled)
+    for process in lives:
+        process.kill()
+        process.wait()
+    for pid in dead:
+        os.waitpid(pid, 0)
 
 
 COUNTS = """
@@ -564,29 +771,65 @@ def inside_freezer():
     process.stdout.close()
 
 
-OF_MOUNT = (numbers, adopted)
+def inside_undone():
+    """An undo brings a process back into a frozen group. Without memory to stop it then, the next operation stops it."""
+    for group in ("/cold", "/warm"):
+        os.mkdir(AT + group)
+    process = subprocess.Popen([sys.executable, "-S", "-c", COUNTS], stdout=subprocess.DEVNULL)
+    pid = b"%d" % process.pid
+    write(AT + "/cold/cgroup.freeze", b"1")
+    is_frozen = lambda: read(AT + "/cold/cgroup.events") == b"populated 1\nfrozen 1\n"
+    wrong = []
+    for nth, rest in places():
+        write(AT + "/cold/cgroup.procs", pid)
+        moved = until(is_frozen)
+        write(AT + "/warm/cgroup.procs", pid)
+        memory.refuse(nth, rest)
+        got = outcome(lambda: write(AT + "/.makhloeum/undo", b"1"))
+        refused = memory.refused()
+        right = until(is_frozen) if got is None else got == "ENOMEM" and read(AT + "/warm/cgroup.procs") == pid + b"\n"
+        if not moved or not right:
+            wrong.append((nth, rest, got, moved))
+            break
+        if not refused and not rest:
+            break
+    same("undos with memory refused", wrong, [])
+    step("they were refused", 1 < nth < MOST - 1, nth)
+    process.kill()
+    process.wait(PATIENCE)
+
+
+OF_MOUNT = (starts, numbers, adopted, beginnings)
 INSIDE = (
     inside_freezer,
+    inside_undone,
     inside_forks,
+    inside_steps,
     inside_spaces,
     inside_kills,
     inside_texts,
+    inside_tables,
     inside_zombies,
     inside_domains,
 )
-OPTIONS = {inside_domains: ("--keep", "cpu")}
+OPTIONS = {inside_domains: ("--keep", "cpu,memory"), inside_steps: ("--control",), inside_undone: ("--control",)}
 if sys.argv[1:2] == ["inside"]:
     {t.__name__: t for t in OF_MOUNT + INSIDE}[sys.argv[2]]()
     finish()
 
 
-def part(name, *start, **words):
+def few_descriptors():
+    resource.setrlimit(resource.RLIMIT_NOFILE, (256, 256))
+
+
+def part(name, *start, before=None, **words):
     own = Memory()
     ran = subprocess.run(
         [*start, sys.executable, ME, "inside", name],
         timeout=6 * PATIENCE,
         stdout=subprocess.PIPE,
         stderr=subprocess.PIPE,
+        preexec_fn=before,
         env=dict(os.environ, NO_MEMORY=own.file, **words),
     )
     os.unlink(own.file)
@@ -597,7 +840,18 @@ def part(name, *start, **words):
     same("the status of %s" % name, ran.returncode, 0)
 
 
-in_parallel(part, [t.__name__ for t in OF_MOUNT])
+wanted = [t for t in (*OF_MOUNT, *INSIDE) if t.__name__ in sys.argv[1:] or not sys.argv[1:]]
+in_parallel(part, [t.__name__ for t in wanted if t in OF_MOUNT])
 # not beside a mount, which would live on in their namespaces
-in_parallel(lambda t: part(t.__name__, PROGRAM, "run", *OPTIONS.get(t, ()), LD_PRELOAD=LIBRARY), INSIDE)
+in_parallel(
+    lambda t: part(
+        t.__name__,
+        PROGRAM,
+        "run",
+        *OPTIONS.get(t, ()),
+        before=few_descriptors if t is inside_tables else None,
+        LD_PRELOAD=LIBRARY,
+    ),
+    [t for t in wanted if t in INSIDE],
+)
 finish()

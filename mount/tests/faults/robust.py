@@ -210,6 +210,10 @@ def background(closed=""):
     step("out of reach of the caller's terminal", sessions and os.getsid(0) not in sessions, ours)
     streams = lambda: {link_of(pid, "fd/%d" % fd) for pid in ours if is_alive(pid) for fd in range(3)}
     step("with no stream of the caller's", until(lambda: streams() == {"/dev/null"}), streams())
+    # of each process, beside its streams
+    links = lambda: [sorted(links_of(pid)) for pid in ours if is_alive(pid)]
+    kept = lambda: [link for each in links() for link in each if link.startswith(("/dev/null", "pipe:"))]
+    step("and nothing else of its start", until(lambda: kept() == ["/dev/null"] * 3 * len(links())), links())
     step(
         "fusermount3 -u unmounts it",
         until(lambda: subprocess.run(["fusermount3", "-u", at], stderr=-3).returncode == 0),
@@ -270,13 +274,15 @@ def covered():
 
 
 def unaided():
-    """The companion unmounts what a killed server leaves, without fusermount3 where it may."""
+    """The companion unmounts what a killed server leaves, without fusermount3 where it may, also while it is used."""
     at = tempfile.mkdtemp()
     server = subprocess.Popen([PROGRAM, "mount", at, "--foreground"], env=dict(os.environ, PATH="/nowhere"))
     step("it is mounted", until(lambda: os.path.ismount(at)))
+    fd = os.open(at, os.O_RDONLY)
     server.kill()
     server.wait()
     step("it goes", until(lambda: error_of(os.listdir, at) == "ok" and not os.path.ismount(at)))
+    os.close(fd)
 
 
 def unheard():
@@ -348,6 +354,7 @@ def let_go():
     kinds = lambda: sorted(link.partition(":")[0] for link in links_of(companions[0]))
     step("what it has", until(lambda: kinds() == ["/dev/null"] * 3 + ["socket"]), kinds())
     same("it leads its session", session_of(companions[0]), companions[0])
+    same("it is nobody's child that waits for it", read("/proc/%d/task/%d/children" % (p.pid, p.pid)), b"")
     step("it can be unmounted", until(lambda: subprocess.run(["fusermount3", "-u", at], stderr=-3).returncode == 0))
     same("its process ends", p.wait(10 * PATIENCE), 0)
     for fd in (r, w, high, *sum(own, ())):

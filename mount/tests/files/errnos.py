@@ -146,8 +146,22 @@ CALLS = [
     ("open to write, of a file that is read", lambda g: opened(g + "/" + RO, WR), "ok", "EACCES"),
     ("open with O_TRUNC, of a file that is read", lambda g: opened(g + "/" + RO, RD | os.O_TRUNC), "ok", "EACCES"),
     ("open to read, of a file that is written", lambda g: opened(g + "/" + WO, RD), "ok", "EACCES"),
+    ("open to read and write, of a file that is read", lambda g: opened(g + "/" + RO, RDWR), "ok", "EACCES"),
+    ("open to read and write, of a file that is written", lambda g: opened(g + "/" + WO, RDWR), "ok", "EACCES"),
     ("open with O_DIRECT", lambda g: opened(g + "/" + RW, RD | os.O_DIRECT), "EINVAL", "EINVAL"),
     ("open with O_DIRECT, of a group", lambda g: opened(g, RD | os.O_DIRECT), "EINVAL", "EINVAL"),
+    (
+        "open with O_DIRECT to write, of a file that is read",
+        lambda g: opened(g + "/" + RO, WR | os.O_DIRECT),
+        "EINVAL",
+        "EACCES",
+    ),
+    (
+        "open with O_DIRECT to read, of a file that is written",
+        lambda g: opened(g + "/" + WO, RD | os.O_DIRECT),
+        "EINVAL",
+        "EACCES",
+    ),
     ("open to write, of a group", lambda g: opened(g, WR), "EISDIR", "EISDIR"),
     ("open with O_DIRECTORY, of a file", lambda g: opened(g + "/" + RW, RD | os.O_DIRECTORY), "ENOTDIR", "ENOTDIR"),
     (

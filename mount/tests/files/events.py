@@ -37,8 +37,8 @@ class Watch:
                 self.others.add(hex(mask))
             data = data[16 + size :]
 
-    def take(self):
-        """What came since the last time."""
+    def take(self, wanted=()):
+        """What came since the last time. On a busy machine the mark may be told once more before these files are."""
         self.modified, self.others, self.marked = set(), set(), 0
         write(
             m.path("cgroup.procs") if b"9" in read(m.path("mark", "cgroup.procs")) else m.path("mark", "cgroup.procs"),
@@ -47,7 +47,7 @@ class Watch:
 
         def came():
             self.read()
-            return self.marked
+            return self.marked and self.modified >= set(wanted)
 
         step("the last change is told", until(came))
         return self.modified, self.others
@@ -55,7 +55,7 @@ class Watch:
 
 def tells(what, watch, *wanted):
     """These files were modified, and nothing else came."""
-    same(what, watch.take(), (set(wanted), set()))
+    same(what, watch.take(wanted), (set(wanted), set()))
 
 
 def told(poller):

@@ -196,6 +196,11 @@ def sent():
             os.close(fd)
     write(m.path("a/pids.max"), b"1000\n")
     same("its size then", os.stat(m.path("a/pids.max")).st_size, 5)
+    fd = os.open(m.path("cgroup.procs"), os.O_RDONLY)
+    same("the size of an open file", os.fstat(fd).st_size, len(b"1\n"))
+    write(m.control("fork"), b"1 2")
+    same("at once after a fork", os.fstat(fd).st_size, len(b"1\n2\n"))
+    os.close(fd)
     m.end()
 
 
@@ -239,6 +244,17 @@ def extra():
         got = error_of(write, m.path("a", "cgroup.subtree_control"), value)
         same("cgroup.subtree_control %s" % value.decode(), got, "ENOTSUP")
     same("none of these is a line of the trace", lines_of(m), before)
+    m.end()
+
+
+def elsewhere():
+    """The numbers of a mount are the same in every PID namespace."""
+    m = Mount()
+    os.mkdir(m.path("a"))
+    write(m.control("fork"), b"1 4194303\n")
+    script = 'echo 4194303 >"$1/a/cgroup.procs"; cat "$1/a/cgroup.procs" "$1/cgroup.procs"'
+    ran = subprocess.run(["unshare", "-Urpf", "sh", "-c", script, "sh", m.at], stdout=subprocess.PIPE)
+    same("a move and two lists in another PID namespace", (ran.returncode, ran.stdout), (0, b"4194303\n1\n"))
     m.end()
 
 
@@ -422,6 +438,6 @@ def no_history():
     m.end()
 
 
-for test in (listing, values, groups, opened, sent, shell, extra, silent, closed, control, no_history):
+for test in (listing, values, groups, opened, sent, shell, extra, elsewhere, silent, closed, control, no_history):
     test()
 finish()

@@ -12,6 +12,7 @@ from on_kernel import left_out, new_group
 from support import AT, Mount, error_of, finish, inside, libc, run_each, same, step, write, until
 
 DIRECTORY, FILE = 4, 8  # DT_DIR, DT_REG
+MARK = -0x6D6B6872  # the time by which the companion marks a change (companion.h)
 libc.opendir.restype = libc.readdir.restype = ctypes.c_void_p
 
 
@@ -294,6 +295,18 @@ def timed(at):
     os.rmdir(group)
 
 
+def truncated(at):
+    """A truncation by a path changes no time."""
+    os.mkdir(at + "/t")
+    file = at + "/t/cgroup.procs"
+    os.utime(file, (7, 9))
+    changed = os.stat(file).st_ctime_ns
+    until_after(changed)
+    os.truncate(file, 0)
+    same("the times after a truncation", (times_of(file), os.stat(file).st_ctime_ns), ((7, 9), changed))
+    os.rmdir(at + "/t")
+
+
 def removed(at):
     """A group and a file that are open when the group is removed."""
     group = at + "/r"
@@ -505,6 +518,8 @@ def notified():
     write(m.path("e/cgroup.procs"), b"1\n")
     same("it is told", os.read(fd, 100)[4:8], b"\2\0\0\0")
     same("the times of the file", times_of(m.path("e/cgroup.events")), before)
+    os.utime(m.path("e/cgroup.events"), (7, MARK))
+    same("the mark as one of two times", times_of(m.path("e/cgroup.events")), (7, MARK))
     os.close(fd)
     m.end()
 
@@ -527,7 +542,7 @@ def control():
 
 
 inside(unknown_in_a_run)
-ON_BOTH = (listed, numbered, modes, owned, settings, first, timed, removed, continued, handled)
+ON_BOTH = (listed, numbered, modes, owned, settings, first, timed, truncated, removed, continued, handled)
 if sys.argv[1:] == ["kernel"]:
     with new_group() as group:
         for test in ON_BOTH if group else ():

@@ -153,7 +153,8 @@ def control():
     ):
         same(what, error_of(call), wanted)
     same("it is as it was", (modes(at), read(at + "/depth")), (HISTORY, b"0\n"))
-    for name in (".makhloeum2", ".makhloeu", ".makhloeum.x", "makhloeum", "..makhloeum"):
+    of_runs = (".makhloeum.d", ".makhloeum.f", ".makhloeum.t.1", ".makhloeum.1", ".makhloeum.1.0")
+    for name in (".makhloeum2", ".makhloeu", ".makhloeum.x", "makhloeum", "..makhloeum", *of_runs):
         same("a group %s" % name, error_of(os.mkdir, m.path(name)), "ok")
         same("its file", read(m.path(name, "pids.current")), b"0\n")
     os.mkdir(m.path("g"))
@@ -420,7 +421,15 @@ def hidden():
     found = (error_of(os.stat, hidden), error_of(os.mkdir, hidden), error_of(os.listdir, hidden))
     same("the directory of the helper is not found", found, ("ENOENT", "EPERM", "ENOENT"))
     same("it has it all the same", read("/proc/self/cgroup"), b"0::/\n")
-    names = (".makhloeum.x", ".makhloeum.1.x", ".makhloeum.4194304.0", ".makhloeum.", ".makhloeumx")
+    made = [error_of(os.mkdir, "%s/.makhloeum.t.%d" % (AT, n)) for n in (0, 1, 10**18 - 1)]
+    same("no group has the name of a table", made, ["EPERM"] * 3)
+    pid = os.fork()
+    if pid == 0:
+        write(AT + "/g/cgroup.procs", b"0")
+        os._exit(libc.unshare(0x02000001) == 0)  # CLONE_NEWCGROUP, and a flag that there is not
+    same("a namespace that is not made", os.waitpid(pid, 0)[1], 0)
+    same("is not that without a number", read(AT + "/.makhloeum.0.0"), b"0::/\n")
+    names = (".makhloeum.x", ".makhloeum.1.x", ".makhloeum.4194304.0", ".makhloeum.", ".makhloeumx", ".makhloeum.t.1x")
     for name in names:
         same(
             "a group %s" % name,
@@ -428,6 +437,17 @@ def hidden():
             ("ok", b"0\n"),
         )
         os.rmdir(AT + "/" + name)
+
+
+def superuser():
+    """Inside, as the superuser, whom no mode keeps from an open: what a file of the control directory can't do is refused afterwards."""
+    for name, mode in HISTORY.items():
+        path = AT + "/.makhloeum/" + name
+        got = error_of(read, path), error_of(write, path, b"1 1 1")
+        same("a read of %s, and a write of three numbers" % name, got, ("ok" if mode & READ else "EINVAL", "EINVAL"))
+    for name in ("depth", "newest", "trace"):
+        for value in (b"\n", b"1", b"1 2"):
+            same("a write of %r to %s" % (value, name), error_of(write, AT + "/.makhloeum/" + name, value), "EINVAL")
 
 
 def table(text, what):
@@ -473,6 +493,8 @@ def under_run():
         words = [sys.executable, ME, "inside", *map(str, numbers), os.readlink("/proc/self/ns/cgroup")]
         ran = subprocess.run([PROGRAM, "run", *options, *words], timeout=2 * PATIENCE)
         same("run %s: its status" % " ".join(options), ran.returncode, 0)
+    words = [PROGRAM, "run", "--root", "--control", sys.executable, ME, "superuser"]
+    same("run --root --control: its status", subprocess.run(words, timeout=2 * PATIENCE).returncode, 0)
 
 
 def longest():
@@ -595,6 +617,9 @@ def made():
 
 if sys.argv[1:2] == ["inside"]:
     inside(*sys.argv[2:])
+    finish()
+if sys.argv[1:] == ["superuser"]:
+    superuser()
     finish()
 if sys.argv[1:] == ["other"]:
     same("who this is", (os.geteuid(), os.getegid()), (3, 4))

@@ -436,6 +436,28 @@ def of_disks():
         same("%s then" % name, read(file).decode(), text)
 
 
+def of_many():
+    """Inside a run for which the machine has the disks 100:100 to 100:199: more than a file has room for."""
+    write(AT + "/cgroup.subtree_control", b"+io")
+    os.mkdir(AT + "/v")
+    file, text = AT + "/v/io.max", ""
+
+    def line(device, size):
+        """A line of this size: its rate has as many digits as it takes."""
+        words = "100:%d rbps=%s wbps=max riops=max wiops=max\n"
+        return words % (device, "1" * (size - len(words % (device, ""))))
+
+    for device in range(100, 172):
+        added = line(device, 56 if device < 171 else 59)
+        write(file, added.encode())
+        text += added
+    same("of 72 devices", read(file).decode(), text)
+    same("a line that is one byte too long", error_of(write, file, line(172, 61).encode()), "ENOMEM")
+    same("is not there", read(file).decode(), text)
+    same("one that just fits", error_of(write, file, line(172, 60).encode()), "ok")
+    same("is there", (read(file).decode(), len(read(file))), (text + line(172, 60), 4095))
+
+
 def elsewhere(what, script, keep, test):
     """A run on a machine that looks as the script makes it."""
     words = ["unshare", "-Urm", "sh", "-ec", script + '\ncd /\nexec "$0" run --keep %s -- "$@"' % keep]
@@ -447,6 +469,8 @@ def disks():
     script = """mount -t tmpfs none /sys/dev/block; cd /sys/dev/block
 mkdir 7:1 7:10 8:0 8:1 9:1x x 9:2:3 9; touch 8:1/partition"""
     elsewhere("with these disks", script, "io", of_disks)
+    script = "mount -t tmpfs none /sys/dev/block; cd /sys/dev/block; for i in $(seq 100 199); do mkdir 100:$i; done"
+    elsewhere("with many disks", script, "io", of_many)
 
 
 PROCESSORS = """mount -t tmpfs none /sys/devices/system; cd /sys/devices/system; mkdir cpu node
@@ -456,6 +480,8 @@ echo %s >cpu/possible; echo %s >cpu/online; echo %s >node/possible; echo %s >nod
 def processors():
     elsewhere("with these processors", PROCESSORS % ("0-3,8", "0-1,8", "0-2", "0,2"), "cpuset", of_processors)
     elsewhere("with none that it knows", "mount -t tmpfs none /sys/devices/system", "cpuset", of_none)
+    elsewhere("with as many as a kernel can have", PROCESSORS % ("0-8191", "0-8191:1/2", "0", "0"), "cpuset", of_most)
+    elsewhere("with one more", PROCESSORS % ("0-8192", "8192", "0", "0"), "cpuset", of_none)
     elsewhere("with what is no list", PROCESSORS % ("x", "0-", "''", "0-3x"), "cpuset", of_none)
 
 
@@ -544,6 +570,28 @@ def of_none():
         tries(((name, "0", "ok", name, "0\n"), (name, "1", beyond, name, "0\n")))
 
 
+def of_most():
+    """Processors 0 to 8191 are possible, and every other one is online. A list is kept if its text fits into a file, with its end."""
+    write(AT + "/cgroup.subtree_control", b"+cpuset")
+    os.mkdir(AT + "/v")
+    cpus = "cpuset.cpus"
+    fits = ",".join(map(str, range(1000, 2637, 2))) + "\n"
+    same("the text that just fits", len(fits), 4095)
+    tries(
+        (
+            (cpus, "all", "ok", cpus, "0-8191\n"),
+            (cpus, "8190-N", "ok", cpus, "8190-8191\n"),
+            (cpus, "8192", "ERANGE", cpus, "8190-8191\n"),
+            (cpus, "N", "ok", cpus, "8191\n"),
+            (cpus, "1000-2636:1/2", "ok", cpus, fits),
+            (cpus, "2 100 1000-2634:1/2", "ENOMEM", cpus, fits),
+            (cpus, "0-N:1/2", "ENOMEM", cpus, fits),
+            (cpus, "0-3", "ok", "cpuset.cpus.effective", "0,2\n"),
+        )
+    )
+    same("a list that is longer than a file", read(AT + "/cpuset.cpus.effective"), b"\n")
+
+
 def lives():
     """Values are created and removed with their group."""
     m = kept()
@@ -577,7 +625,7 @@ def lives():
     m.end()
 
 
-inside(of_disks, of_processors, of_none)
+inside(of_disks, of_many, of_processors, of_none, of_most)
 for test in (fresh, values, related, devices, disks, processors, lives):
     test()
 finish()

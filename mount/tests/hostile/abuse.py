@@ -10,7 +10,7 @@ import time
 import uuid
 
 sys.path.insert(0, os.path.dirname(os.path.dirname(os.path.realpath(__file__))))
-from support import AT, BUILT, CGREPLAY, PATIENCE, PROGRAM
+from support import AT, BUILT, CGREPLAY, PATIENCE, PROGRAM, TRACE_MAX
 from support import finish, in_parallel, into, line_of, read, same, status_within, step, until, write
 
 ME = os.path.realpath(__file__)
@@ -167,7 +167,7 @@ def run(name):
     )
     same("%s: its status" % name, status_within(p, 6 * PATIENCE), 0)
     with open(trace) as lines, open(answers, "rb") as wanted:
-        if os.path.getsize(trace) < 16 << 20:
+        if os.path.getsize(trace) <= TRACE_MAX:
             step(
                 "%s: cgreplay gives the same answers" % name,
                 subprocess.run(CGREPLAY, stdin=lines, stdout=subprocess.PIPE).stdout == wanted.read(),

@@ -141,6 +141,30 @@ def spaces():
     p.kill()
 
 
+WRITES = """
+import os, sys
+fd = os.open("%s/a/cgroup.procs", os.O_WRONLY)
+os.write(1, b"x")
+os.read(0, 1)
+os.write(fd, b"0")
+"""
+
+
+def meaning():
+    """A process whose directory in /proc is held moves itself, so the server asks whose thread it is."""
+    os.mkdir(AT + "/a")
+    writer = subprocess.Popen([sys.executable, "-S", "-c", WRITES % AT], stdin=subprocess.PIPE, stdout=subprocess.PIPE)
+    writer.stdout.read(1)
+    p, held = holder("hold", PAGE, "/proc/%d" % writer.pid)
+    step("its directory is held", held)
+    writer.stdin.write(b"x")
+    writer.stdin.flush()
+    time.sleep(0.1)
+    step("others still run", forks())
+    p.kill()
+    writer.kill()
+
+
 LEADERLESS = (
     "import ctypes, threading, time\nthreading.Thread(target=time.sleep, args=(600,)).start()\nctypes.CDLL(None).syscall(%d, 0)"
     % (60 if os.uname().machine == "x86_64" else 93)
@@ -331,14 +355,36 @@ def crowded():
     step("others still run", forks())
 
 
+def helper_of(supervisor):
+    """The one of its processes that has the most threads."""
+    return max(own_of(supervisor), key=lambda pid: len(os.listdir("/proc/%d/task" % pid)))
+
+
 def opening():
-    """Many opens wait for memory: another one shows the hierarchy all the same. More than may wait: nobody limits the supervisor."""
+    """Many opens wait for memory: another one shows the hierarchy all the same. More than may wait: they take no thread, and nobody
+    limits the supervisor. Once all have ended, as many may wait as before."""
     os.mkdir(AT + "/a")
     into("/a")
-    words = [BLOCKING, "opens", PAGE, str(tracer())]
-    ran = subprocess.run(words, stdout=subprocess.PIPE, timeout=4 * PATIENCE)
-    same("the text of the 501st, and a limit", ran.stdout, b"0::/a\nEPERM\n")
+    stalled = os.path.dirname(PAGE)
+    words = [BLOCKING, "opens", stalled + "/late", str(tracer())]
+    p = subprocess.Popen(words, stdin=subprocess.PIPE, stdout=subprocess.PIPE)
+    said = Beside(lambda: [p.stdout.readline() for _ in range(2)]).result()
+    same("the text of the 501st, and a limit", said, [b"0::/a\n", b"EPERM\n"])
+    helper = helper_of(tracer())
+    count = lambda: len(os.listdir("/proc/%d/task" % helper))
+    same("the threads of the helper", count(), 512 + 3)
+    os.path.exists(stalled + "/go")
+    step("those that waited end", until(lambda: count() == 3), count())
+    same("the text of another one", read("/proc/self/cgroup"), b"0::/a\n")
+    p.communicate()
     into("")
+    step("others still run", forks())
+
+
+def storming():
+    """An open waits for memory while clone3 calls come all the time: another one is answered before they end."""
+    ran = subprocess.run([BLOCKING, "beside", PAGE], stdout=subprocess.PIPE, timeout=PATIENCE)
+    same("its text", ran.stdout, b"0::/\nmeanwhile\n")
     step("others still run", forks())
 
 
@@ -354,7 +400,7 @@ def waits_of(statuses):
 def resting():
     """An open waits for a second, and before it there was none: others are answered meanwhile. Afterwards each call still wakes one
     thread; a thread that looks every millisecond wakes too."""
-    helper = max(own_of(tracer()), key=lambda pid: len(os.listdir("/proc/%d/task" % pid)))
+    helper = helper_of(tracer())
 
     def wakes():
         return sum(waits_of(glob.glob("/proc/%d/task/*/status" % helper)))
@@ -517,6 +563,7 @@ INSIDE = {
     machine: ["--root", "--keep", "cpuset,io"],
     listing: [],
     spaces: ["--root"],
+    meaning: [],
     leaderless: [],
     ending: [],
     clearing: [],
@@ -528,6 +575,7 @@ INSIDE = {
     waiting: [],
     crowded: [],
     opening: [],
+    storming: [],
     resting: [],
     stopped: [],
     stopping: [],
@@ -634,6 +682,47 @@ def queued():
     m.end()
 
 
+def busy():
+    """The companion is stopped and continued again and again. Each time a thread waits for it, which leaves no memory behind."""
+    m = Mount("--extra")
+    watch, companions = libc.inotify_init(), companions_of(m.process.pid)
+    for name in ("often", "mark"):
+        os.mkdir(m.path(name))
+        mark = libc.inotify_add_watch(watch, m.path(name, "cgroup.events").encode(), 2)  # IN_MODIFY
+
+    def unused_stacks():
+        """How many stacks of threads it keeps beyond those of its threads."""
+        with open("/proc/%d/maps" % m.process.pid) as maps:
+            places = re.findall(r"(?m)^(\w+)-(\w+) rw-p .* 0 *$", maps.read())
+        stacks = sum(int(end, 16) - int(start, 16) == 8192 << 10 for start, end in places)
+        return stacks - len(os.listdir("/proc/%d/task" % m.process.pid))
+
+    def turn(value):
+        """Whether the last of many changes is told, which fill the socket of the companion."""
+        for pid in companions:
+            os.kill(pid, signal.SIGSTOP)
+        for each in (b"1", b"0") * 300:
+            write(m.path("often", "cgroup.freeze"), each)
+        for pid in companions:
+            os.kill(pid, signal.SIGCONT)
+        write(m.path("mark", "cgroup.freeze"), value)
+        told = [None]
+        while told[-1] != mark:
+            told = [
+                number for number, *_ in struct.iter_unpack("iIII", Beside(os.read, watch, 1 << 16).result() or b"")
+            ]
+            if not told:
+                return False
+        return True
+
+    step("the last change is told", turn(b"1"))
+    before = unused_stacks()
+    step("each time", all(turn(b"%d" % (i % 2)) for i in range(20)))
+    step("it keeps no stacks of threads that ended", unused_stacks() - before < 10, (before, unused_stacks()))
+    os.close(watch)
+    m.end()
+
+
 def killed():
     """makhloeum is killed while its other processes are stopped."""
     p = subprocess.Popen([PROGRAM, "run", "sh", "-c", "echo x; exec sleep 600"], stdout=subprocess.PIPE)
@@ -703,7 +792,7 @@ def idle():
     same("its status", status_within(p), 128 + signal.SIGTERM)
 
 
-OUTSIDE = (unmounted, stuck, queued, killed, callers, idle)
+OUTSIDE = (unmounted, stuck, queued, busy, killed, callers, idle)
 wanted = [t for t in (*INSIDE, *OUTSIDE) if t.__name__ in sys.argv[1:] or not sys.argv[1:]]
 in_parallel(lambda t: run(t) if t in INSIDE else t(), wanted)
 finish()

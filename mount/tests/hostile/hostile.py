@@ -10,7 +10,7 @@ import sys
 import tempfile
 
 sys.path.insert(0, os.path.dirname(os.path.dirname(os.path.realpath(__file__))))
-from support import AT, BUILT, CGREPLAY, PATIENCE, PROGRAM
+from support import AT, BUILT, CGREPLAY, PATIENCE, PROGRAM, TRACE_MAX
 from support import error_of, finish, into, libc, own_of, read, same, status_within, step, tracer, until, write
 
 ME = os.path.realpath(__file__)
@@ -280,17 +280,52 @@ def fill(call):
     step("the others fail before there is a child, but the first", strangers <= 1, strangers)
 
 
-FILLED = """import os, sys, time
+FORKS = """import os, sys
+print(os.getpid(), flush=True)
+sys.stdin.readline()
+made = strangers = 0
+for _ in range(5):
+    try:
+        pid = os.fork()
+    except OSError:
+        continue
+    if pid == 0:
+        os._exit(0)
+    made += 1
+try:
+    while os.waitpid(-1, 0):
+        strangers += 1
+except ChildProcessError:
+    print(made, strangers)
+"""
+
+
+def almost_full():
+    """The trace has room for a line that changes nothing, and not for that of a fork: this is noticed once there is a child, and only
+    once."""
+    trace = os.path.join(tempfile.mkdtemp(), "trace")
+    words = [PROGRAM, "run", "--trace", trace, sys.executable, "-c", FORKS]
+    p = subprocess.Popen(words, stdin=subprocess.PIPE, stdout=subprocess.PIPE)
+    number = int(p.stdout.readline())
+    most = os.path.getsize(trace) + len("# at 10.000000\nwhere %d\n" % number)
+    hard = resource.getrlimit(resource.RLIMIT_FSIZE)[1]
+    for pid in own_of(p.pid):
+        resource.prlimit(pid, resource.RLIMIT_FSIZE, (most, hard))
+    same("forks, and children that nobody made", (p.communicate(b"\n")[0], p.returncode), (b"0 1\n", 0))
+
+
+FILLED = """import os, sys, threading, time
 at = "/sys/fs/cgroup/a"
 os.mkdir(at)
 r, w = os.pipe()
 pid = os.fork()
 if pid == 0:
     open(at + "/cgroup.procs", "w").write("0")
+    threading.Thread(target=time.sleep, args=(600,), daemon=True).start()
     os.write(w, b"x")
     time.sleep(600)
 os.read(r, 1)
-print("ready", flush=True)
+print("ready", open(at + "/pids.current").read(), end="", flush=True)
 sys.stdin.readline()
 os.kill(pid, 9)
 os.waitpid(pid, 0)
@@ -312,7 +347,8 @@ os.rmdir(at)
 
 
 def full_for_a_while():
-    """A process ends while the trace can't be written. Once there is room, its exit is in the trace, and it counts no more."""
+    """A process with two threads ends while the trace can't be written. Once there is room, their exits are in the trace, and they count no
+    more."""
     home = tempfile.mkdtemp()
     trace, errors = home + "/trace", home + "/errors"
     p = subprocess.Popen(
@@ -321,7 +357,7 @@ def full_for_a_while():
         stdout=subprocess.PIPE,
         stderr=open(errors, "w"),
     )
-    same("its child is in a group", p.stdout.readline(), b"ready\n")
+    same("its child is in a group, with a thread", p.stdout.readline(), b"ready 2\n")
     hard = resource.getrlimit(resource.RLIMIT_FSIZE)[1]
     for limit, said in ((os.path.getsize(trace), b"ended\n"), (hard, None)):
         for pid in own_of(p.pid):
@@ -331,7 +367,7 @@ def full_for_a_while():
         if said:
             same("it ends without a line", (p.stdout.readline(), b"exit" in read(trace)), (said, False))
     same("then it is gone", (p.communicate()[0], p.returncode), (b"('0\\n', '')\n", 0))
-    same("in the trace too", len(re.findall(r"^exit ", open(trace).read(), re.M)), 1)
+    same("in the trace too", len(re.findall(r"^exit ", open(trace).read(), re.M)), 2)
 
 
 HOLD = """import ctypes, errno, os
@@ -405,12 +441,12 @@ for test in INSIDE:
     )
     same("%s: its status" % test.__name__, status_within(p, 8 * PATIENCE), 0)
     with open(trace) as lines, open(answers, "rb") as wanted:
-        if os.path.getsize(trace) < 16 << 20:
+        if os.path.getsize(trace) <= TRACE_MAX:
             step(
                 "cgreplay gives the same answers",
                 subprocess.run(CGREPLAY, stdin=lines, stdout=subprocess.PIPE).stdout == wanted.read(),
             )
-for test in (full_trace, full_for_a_while, taken_hold, stalled):
+for test in (full_trace, almost_full, full_for_a_while, taken_hold, stalled):
     if not sys.argv[1:] or test.__name__ in sys.argv[1:]:
         test()
 finish()

@@ -13,9 +13,9 @@ import threading
 import time
 
 sys.path.insert(0, os.path.dirname(os.path.dirname(os.path.realpath(__file__))))
-from support import AT, BUILT, PATIENCE, PROGRAM
-from support import error_of, finish, in_parallel, into, libc, line_of, own_of, read, same, status_within, step
-from support import tracer, until, write
+from support import AT, BUILT, PATIENCE, PROGRAM, descriptor_places
+from support import error_of, finish, in_parallel, into, libc, line_of, own_of, read, same, server_and_helper
+from support import status_within, step, tracer, until, write
 
 ME = os.path.realpath(__file__)
 READERS = os.path.join(BUILT, "readers")
@@ -190,6 +190,10 @@ def flooded():
     for pid in floods:
         os.kill(pid, signal.SIGKILL)
         os.waitpid(pid, 0)
+    for pid in own() * 20:
+        os.kill(pid, signal.SIGRTMIN + 5)
+    waits = lambda: [x.split()[1] for pid in own() for x in open("/proc/%d/status" % pid) if x.startswith("ShdPnd:")]
+    same("those of real time that the other three keep waiting", waits(), ["0" * 16] * 3)
 
 
 def untold():
@@ -298,6 +302,9 @@ def tables():
         got += os.read(r, 999).split()
     # each takes two descriptors of the server, and all of them a quarter of its 256
     same("too many are refused", got, [b"ok"] * 32 + [b"ENFILE"] * 48)
+    errors = {error_of(os.open, "/proc/self/mounts", os.O_RDONLY) for _ in range(200)}
+    places = descriptor_places(server_and_helper(tracer())[0])
+    same("two hundred more, which take no descriptors", (errors, places <= 128), ({"ENFILE"}, True))
     step("others still run", forks())
     same("a group can be made", error_of(os.mkdir, AT + "/g"), "ok")
     for pid in held:

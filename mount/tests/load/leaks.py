@@ -1,6 +1,7 @@
 """What a mount uses for an operation it gives back: memory of the server and descriptors, over many rounds of each kind of operation."""
 import ctypes
 import fcntl
+import itertools
 import os
 import select
 import signal
@@ -9,7 +10,8 @@ import sys
 import threading
 
 sys.path.insert(0, os.path.dirname(os.path.dirname(os.path.realpath(__file__))))
-from support import AT, PATIENCE, PROGRAM, Mount, error_of, finish, libc, read, same, status_within, step, tracer, write
+from support import AT, PATIENCE, PROGRAM, Mount, companions_of, descriptor_places, error_of, finish, libc, read, same
+from support import status_within, step, tracer, until, write
 
 ME = os.path.realpath(__file__)
 # With an arena for each thread the memory grows until each has had its turn with the most records.
@@ -36,9 +38,10 @@ def opened(path, flags, then=lambda fd: None):
 
 
 def polled(fd):
+    """It waits: for a poll that doesn't, the kernel asks for no message."""
     p = select.poll()
     p.register(fd, select.POLLPRI)
-    return p.poll(0)
+    return p.poll(1)
 
 
 def watched(path):
@@ -59,6 +62,8 @@ def of_mount():
     write(g + "/pids.max", b"1")
     os.setxattr(g, "user.x", b"x")
     held = [os.open(g + "/cgroup.events", os.O_RDONLY) for _ in range(2)]
+    write(g + "/in/cgroup.max.depth", b"0")
+    new = itertools.count()
 
     def twice(name, *values):
         for value in values:
@@ -140,6 +145,7 @@ def of_mount():
             "groups that are refused",
             lambda: (error_of(os.mkdir, g), error_of(os.mkdir, g + "/a b"), error_of(os.rmdir, m.path("none"))),
         ),
+        ("groups beyond a limit", lambda: error_of(os.mkdir, "%s/in/%d" % (g, next(new)))),
         ("what is left of a group", removed),
         ("what is told of a group", watched_and_removed),
         ("values of a group", values_of_a_removed_group),
@@ -156,6 +162,10 @@ def of_mount():
     for _ in range(2000):  # the engine forgets its records, each 1,024 commands
         operations[0][1]()
     before = open_of(m.process.pid)
+    told = libc.inotify_init()
+    libc.inotify_add_watch(told, (g + "/cgroup.events").encode(), 2)  # IN_MODIFY
+    companion = companions_of(m.process.pid)[0]
+    at_rest = open_of(companion)
     for name, operation in operations:
         for _ in range(ROUNDS // 2):
             operation()
@@ -167,7 +177,9 @@ def of_mount():
         grown = min(after - was for was, after in zip(sizes, sizes[1:]))
         step("%s: no memory is kept" % name, grown < LEAST * ROUNDS, sizes)
         same("%s: no descriptor is kept" % name, open_of(m.process.pid), before)
-    for fd in held:
+    twice("cgroup.freeze", *(b"1", b"0") * 20)
+    step("the companion keeps no descriptor", until(lambda: open_of(companion) == at_rest), open_of(companion))
+    for fd in (*held, told):
         os.close(fd)
     m.end()
 
@@ -178,22 +190,54 @@ TIMES = 200
 
 
 def own():
-    """For each process of makhloeum how many places for descriptors it has. They double when they are used up."""
+    """For each process of makhloeum how many places for descriptors it has."""
     top, found = tracer(), {}
     for pid in (top, *map(int, open("/proc/%d/task/%d/children" % (top, top)).read().split())):
-        status = dict(line.split(":\t", 1) for line in open("/proc/%d/status" % pid) if ":\t" in line)
-        if status["Name"] == "makhloeum\n":
-            found[pid] = int(status["FDSize"])
+        if open("/proc/%d/comm" % pid).read() == "makhloeum\n":
+            found[pid] = descriptor_places(pid)
     return found
+
+
+def elsewhere(procs):
+    """A process in another PID namespace, which reads and writes this file whenever it is asked: what asks it, and what ends it."""
+    (heard, orders), (answers, tells) = os.pipe(), os.pipe()
+    outer = os.fork()
+    if outer == 0:
+        os.close(orders)
+        libc.unshare(0x20000000)  # CLONE_NEWPID
+        if os.fork() == 0:
+            for _ in range(40):  # a long list: more than memory that was free before
+                if os.fork() == 0:
+                    signal.pause()
+            while os.read(heard, 1):
+                read(procs)
+                write(procs, b"1")
+                os.write(tells, b"x")
+            os._exit(0)
+        os._exit(os.waitpid(-1, 0)[1])
+    os.close(heard)
+    os.close(tells)
+
+    def end():
+        os.close(orders)
+        os.close(answers)
+        same("the process in another PID namespace: its status", os.waitpid(outer, 0)[1], 0)
+
+    return lambda: (os.write(orders, b"x"), os.read(answers, 1)), end
 
 
 def inside():
     """Operations of a program with all privileges of its namespace: after each kind no process of makhloeum has more descriptors."""
-    os.mkdir(AT + "/a")
-    write(AT + "/a/cgroup.procs", b"0")
+    write(AT + "/cgroup.subtree_control", b"+cpuset +pids")
+    os.mkdir(AT + "/frozen")
+    told = libc.inotify_init()
+    libc.inotify_add_watch(told, (AT + "/frozen/cgroup.events").encode(), 2)  # IN_MODIFY
+    group = AT + "/" + "a" * 200  # what is kept with a path is more than memory that was free before
+    os.mkdir(group)
+    write(group + "/cgroup.procs", b"0")
     home = os.path.join(os.environ.get("TMPDIR", "/tmp"), "leaks%d" % os.getpid())
     os.mkdir(home)
-    buffer, gone = ctypes.create_string_buffer(256), os.open(AT + "/a", os.O_RDONLY)
+    buffer, gone = ctypes.create_string_buffer(256), os.open(group, os.O_RDONLY)
     args = (ctypes.c_uint64 * 11)(0x200000000, 0, 0, 0, signal.SIGCHLD, 0, 0, 0, 0, 0, gone)
 
     def forked(call=lambda: None, number=None):
@@ -202,6 +246,10 @@ def inside():
             call()
             libc._exit(0)
         os.waitpid(pid, 0)
+
+    def hidden():
+        libc.prctl(4, 0, 0, 0, 0)  # PR_SET_DUMPABLE
+        libc.fstatfs(gone, buffer)
 
     def mounted():
         libc.mount(b"none", home.encode(), b"cgroup2", 0, None)
@@ -224,6 +272,18 @@ def inside():
         libc.umount2(home.encode(), 2)
         os.close(device)
 
+    others = subprocess.Popen(
+        ["unshare", "-mpf", "--mount-proc", "sh", "-c", "echo; exec sleep 600"], stdout=subprocess.PIPE
+    )
+    others.stdout.readline()
+    inner = int(read("/proc/%d/task/%d/children" % (others.pid, others.pid)))
+    proc = "/proc/%d/root/proc/" % inner
+
+    def frozen():
+        for value in (b"1", b"0"):
+            write(AT + "/frozen/cgroup.freeze", value)
+            os.read(told, 99)
+
     def turned():
         fd = os.open("/proc/self/mountinfo", os.O_RDONLY)
         polled(fd)
@@ -237,6 +297,7 @@ def inside():
             libc._exit(0)
         return os.waitpid(pid, 0)[0]
 
+    numbered, end = elsewhere(group + "/cgroup.procs")
     operations = (
         ("forks", forked),
         ("births in a group", lambda: forked(number=435)),
@@ -248,11 +309,14 @@ def inside():
         ("opens of cgroup", lambda: read("/proc/self/cgroup")),
         ("opens of cpuset", lambda: read("/proc/self/cpuset")),
         ("opens of cgroups", lambda: read("/proc/cgroups")),
+        ("opens of a text of another namespace", lambda: read(proc + "1/cgroup")),
+        ("opens of oneself in another namespace", lambda: error_of(read, proc + "self/cgroup")),
         ("opens of a text of another file system", lambda: read("/etc/hostname")),
         ("opens of a table of mounts", lambda: read("/proc/self/mounts")),
         ("polls of a table of mounts", turned),
         ("opens of what is not there", lambda: error_of(os.open, "/proc/self/nothing", os.O_RDONLY)),
         ("statfs", lambda: (libc.statfs(AT.encode(), buffer), libc.fstatfs(gone, buffer), libc.statfs(b"/", buffer))),
+        ("a descriptor of a program that hides", lambda: forked(hidden)),
         ("mounts of cgroup2", mounted),
         ("mounts of tmpfs and FUSE", of_another),
         ("mounts that are refused", lambda: libc.mount(b"none", b"/nowhere", b"cgroup2", 0, None)),
@@ -260,8 +324,11 @@ def inside():
         ("fsopen of cgroup2", stepwise),
         ("fsopen", lambda: os.close(libc.syscall(430, b"tmpfs", 0))),
         ("ptrace that is refused", lambda: libc.ptrace(0x4206, 1, 0, 0)),
-        ("groups", lambda: (os.mkdir(AT + "/a/b"), os.rmdir(AT + "/a/b"))),
-        ("locks", lambda: opened(AT + "/a/pids.max", os.O_RDWR, lambda fd: fcntl.flock(fd, fcntl.LOCK_EX))),
+        ("a read and a write in another PID namespace", numbered),
+        ("groups", lambda: (os.mkdir(group + "/b"), os.rmdir(group + "/b"))),
+        ("lists of processes", lambda: read(group + "/cgroup.procs")),
+        ("changes of a watched file", frozen),
+        ("locks", lambda: opened(group + "/pids.max", os.O_RDWR, lambda fd: fcntl.flock(fd, fcntl.LOCK_EX))),
     )
     for _, operation in operations:
         for _ in range(8):
@@ -283,6 +350,9 @@ def inside():
         step("%s: no descriptor is kept" % name, now == before, (before, now))
         step("%s: no memory is kept" % name, max(least.values()) < 0, grown)
         before = now
+    os.kill(inner, signal.SIGKILL)
+    others.communicate()
+    end()
     os.rmdir(home)
 
 
@@ -290,6 +360,6 @@ if sys.argv[1:] == ["inside"]:
     inside()
     finish()
 of_mount()
-p = subprocess.Popen([PROGRAM, "run", "--root", sys.executable, ME, "inside"])
+p = subprocess.Popen([PROGRAM, "run", "--root", "--keep", "cpuset", sys.executable, ME, "inside"])
 same("a run: its status", status_within(p, 6 * PATIENCE), 0)
 finish()

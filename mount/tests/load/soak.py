@@ -4,7 +4,7 @@ import subprocess
 import sys
 
 sys.path.insert(0, os.path.dirname(os.path.dirname(os.path.realpath(__file__))))
-from support import CGREPLAY, CGSHELL, PROGRAM, Mount, finish, same, step
+from support import CGREPLAY, CGSHELL, PROGRAM, TRACE_MAX, Mount, finish, same, step
 
 SECONDS = os.environ.get("SOAK") or "6"
 m = Mount(control=False)
@@ -16,7 +16,7 @@ same("each client finds its own group as it left it", ran.returncode, 0)
 step("it can be unmounted", m.unmounted())
 same("its process ends", m.ended(), 0)
 size = os.path.getsize(m.trace)
-by = CGREPLAY if size <= 16 << 20 else [CGSHELL]
+by = CGREPLAY if size <= TRACE_MAX else [CGSHELL]
 if os.path.exists(by[0]):
     with open(m.trace) as trace, open(m.answers, "rb") as answers:
         replay = subprocess.Popen(by, stdin=trace, stdout=subprocess.PIPE)

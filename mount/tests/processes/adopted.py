@@ -183,6 +183,18 @@ same("a kill ends it, and nobody real", (read(m.path("b", "cgroup.procs")), spar
 child.kill()
 child.wait()
 same("who has left does not exit once more", read(m.path("b", "pids.current")), b"0\n")
+child = subprocess.Popen(["sleep", "600"])
+write(m.control("fork"), b"1 %d\n" % child.pid)
+write(m.path("b", "cgroup.procs"), b"%d\n" % child.pid)
+write(m.path("b", "cgroup.kill"), b"1\n")
+same("a kill of a number does not reach whose number it is", spared(child.pid), [True])
+write(m.path("b", "cgroup.procs"), b"%d\n" % child.pid)
+same("who is adopted later", read(m.path("b", "cgroup.procs")), b"%d\n" % child.pid)
+write(m.path("b", "cgroup.kill"), b"1\n")
+same("and killed then", child.wait(PATIENCE), -signal.SIGKILL)
+descriptors = lambda: len(os.listdir("/proc/%d/fd" % m.process.pid))
+read(m.path("cgroup.stat"))
+before = descriptors()
 several = []
 for _ in range(200):  # more than sixteen for each look: a read is an open and some reads, which look several times
     pid = os.fork()
@@ -200,6 +212,18 @@ for pid in several:
 same("all their deaths are seen at once", read(m.path("a", "pids.current")), b"0\n")
 for pid in several:
     os.waitpid(pid, 0)
+read(m.path("cgroup.stat"))
+step("of those that were waited for no descriptor is kept", descriptors() <= before, (before, descriptors()))
+child = subprocess.Popen(["sleep", "600"])
+write(m.path("a", "cgroup.procs"), b"%d\n" % child.pid)
+child.kill()
+os.waitid(os.P_PID, child.pid, os.WEXITED | os.WNOWAIT)
+same("a zombie has left", read(m.path("a", "pids.current")), b"0\n")
+write(m.control("undo"), b"1\n")
+same("an undo brings its number back", read(m.path("a", "pids.current")), b"1\n")
+write(m.path("a", "cgroup.kill"), b"1\n")
+child.wait()
+same("after a kill of it", (read(m.path("a", "pids.current")), descriptors() <= before), (b"0\n", True))
 os.mkdir(m.path("last"))
 last = subprocess.Popen(["sleep", "600"])
 write(m.path("last", "cgroup.procs"), b"%d\n" % last.pid)
@@ -244,6 +268,38 @@ for fd in (kill_b, to_b):
 parent.stdin.close()
 parent.stdout.close()
 
+# a kill whose line can't be kept reaches nobody, also not at the next kill
+one, other = (subprocess.Popen(["sleep", "600"]) for _ in range(2))
+write(m.path("a", "cgroup.procs"), b"%d\n" % one.pid)
+write(m.path("b", "cgroup.procs"), b"%d\n" % other.pid)
+kill_a = os.open(m.path("a", "cgroup.kill"), os.O_WRONLY)
+
+
+def without_room(call, *args):
+    """The errno of a call while the trace can't grow."""
+    soft, hard = resource.prlimit(m.process.pid, resource.RLIMIT_FSIZE)
+    resource.prlimit(m.process.pid, resource.RLIMIT_FSIZE, (1, hard))
+    error = error_of(call, *args)
+    resource.prlimit(m.process.pid, resource.RLIMIT_FSIZE, (soft, hard))
+    return error
+
+
+child = subprocess.Popen(["sleep", "600"])
+to_c = os.open(m.path("c", "cgroup.procs"), os.O_WRONLY)
+same("an adoption without room in the trace", without_room(os.write, to_c, b"%d" % child.pid), "EFBIG")
+os.write(to_c, b"%d" % child.pid)
+same("is made later", read(m.path("c", "cgroup.procs")), b"%d\n" % child.pid)
+os.close(to_c)
+child.kill()
+child.wait()
+same("a kill without room in the trace", without_room(os.write, kill_a, b"1"), "EFBIG")
+write(m.path("b", "cgroup.kill"), b"1")
+same("a kill of another group", other.wait(PATIENCE), -signal.SIGKILL)
+same("reaches no one else", spared(one.pid), [True])
+os.close(kill_a)
+one.kill()
+one.wait()
+
 # who polls is told of what a look finds
 parent = subprocess.Popen(["sh", "-c", forks], stdin=subprocess.PIPE, stdout=subprocess.PIPE, text=True)
 write(m.path("c", "cgroup.procs"), b"%d\n" % parent.pid)
@@ -275,6 +331,35 @@ for pid in (first, third):
     os.kill(pid, signal.SIGKILL)
 for fd in fds:
     os.close(fd)
+parent.stdin.close()
+parent.stdout.close()
+
+# a child whose fork the hierarchy refuses is real all the same
+parent = subprocess.Popen(["sh", "-c", forks], stdin=subprocess.PIPE, stdout=subprocess.PIPE, text=True)
+write(m.path("b", "cgroup.procs"), b"%d\n" % parent.pid)
+fork = os.open(m.control("fork"), os.O_WRONLY)
+first = forked()
+os.write(fork, b"1 %d\n" % first)
+write(m.path("a", "cgroup.procs"), b"%d\n" % first)
+write(m.path("a", "cgroup.kill"), b"1\n")
+step("a kill reaches one whose number was there before", until(lambda: not is_alive(first)))
+count = os.open(m.path("b", "pids.current"), os.O_RDONLY)
+look = lambda: os.pread(count, 99, 0)
+second = forked()
+same("a birth without room in the trace", (without_room(look), look()), ("EFBIG", b"2\n"))
+os.kill(second, signal.SIGKILL)
+step("it dies", until(lambda: not is_alive(second)))
+same("a death without room in the trace", (without_room(look), look()), ("EFBIG", b"1\n"))
+os.close(count)
+write(m.control("exit"), b"%d\n" % parent.pid)
+second = forked()
+same("a child of one that has left is nowhere", [read(m.path("b", "cgroup.procs")) for _ in range(3)], [b""] * 3)
+lines = [x for x in open(m.trace).read().splitlines() if x.endswith(" %d" % second)]
+same("and is tried once", lines, ["fork %d %d" % (parent.pid, second)])
+os.kill(second, signal.SIGKILL)
+os.close(fork)
+parent.kill()
+parent.wait()
 parent.stdin.close()
 parent.stdout.close()
 

@@ -213,6 +213,25 @@ def moves():
     os.rmdir(mark)
 
 
+def reordered():
+    """Two processes are frozen in one order, and then in the other."""
+    for group in ("/a", "/a/first", "/a/last"):
+        os.mkdir(AT + group)
+    low, high = sorted((Counter("/a"), Counter("/a")), key=lambda counter: counter.process.pid)
+    for value, wanted in ((1, FROZEN), (0, THAWED)):
+        freeze("/a", value)
+        becomes("both of a group", "/a", wanted)
+    write(AT + "/a/first/cgroup.procs", b"%d\n" % high.process.pid)
+    write(AT + "/a/last/cgroup.procs", b"%d\n" % low.process.pid)
+    freeze("/a", 1)
+    becomes("each in a group of its own", "/a", FROZEN)
+    step("the supervisor rests", rests())
+    freeze("/a", 0)
+    step("both run again", low.counts() and high.counts())
+    low.end()
+    high.end()
+
+
 FORKS = """
 import os, sys, time
 while True:
@@ -594,7 +613,23 @@ def undone():
     one.end()
 
 
-INSIDE = (stops, moves, kinds, vforked, at_once, executed, again, signals, itself, first, told, many, wide, undone)
+INSIDE = (
+    stops,
+    moves,
+    reordered,
+    kinds,
+    vforked,
+    at_once,
+    executed,
+    again,
+    signals,
+    itself,
+    first,
+    told,
+    many,
+    wide,
+    undone,
+)
 if sys.argv[1:2] == ["inside"]:
     {t.__name__: t for t in INSIDE}[sys.argv[2]]()
     for one in runner:

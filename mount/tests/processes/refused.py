@@ -128,6 +128,7 @@ def ways():
         ("clone3, CLONE_CLEAR_SIGHAND", "ENOSYS", lambda: clone3(1 << 32)),
         ("clone3, CLONE_NEWTIME", "ENOSYS", lambda: clone3(0x80)),
         ("clone3, set_tid", "ENOSYS", lambda: clone3(0, set_tid=8, set_tid_size=1)),
+        ("clone3, a set_tid of 32", "ENOSYS", lambda: clone3(0, set_tid=8, set_tid_size=32)),
         ("clone3, CLONE_PIDFD and CLONE_PARENT_SETTID", "ENOSYS", lambda: clone3(0x101000, pidfd=8, parent_tid=16)),
         ("clone3 of nothing", "EFAULT", lambda: ended(libc.syscall(435, None, 88))),
         ("clone3 into a removed group", "ENOENT", lambda: clone3(INTO, cgroup=gone)),
@@ -188,6 +189,8 @@ def births():
             same("%s: it takes no place" % name, room, (ROOM - 1, b"1\n", b"0\n"))
     born = [clone3(INTO, cgroup=group_b) for _ in range(3 * ROOM)]
     same("children in the other group, one after the other", born, ["ok"] * 3 * ROOM)
+    for _ in range(300):
+        into("/a")  # the server looks at who writes
     for (name, was), (_, now) in zip(before, status_of_own()):
         step("the descriptors of %s" % name, now <= 2 * was, (was, now))
 

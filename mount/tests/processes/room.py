@@ -102,7 +102,7 @@ def full():
     for _ in range(20):
         step("an open ends", read("/proc/self/cgroup") != b"")
     root = os.open(AT, os.O_RDONLY)
-    same("clone3 ends", clone_into(root) in ("EAGAIN", "ENOSYS"), True)
+    same("clone3, of which C libraries then make a clone", clone_into(root), "ENOSYS")
     code = ctypes.create_string_buffer(struct.pack("HBBI", 6, 0, 0, 0x7FFF0000))  # it allows all
     words = ctypes.create_string_buffer(struct.pack("HxxxxxxP", 1, ctypes.addressof(code)))
     libc.prctl(38, 1, 0, 0, 0)  # PR_SET_NO_NEW_PRIVS

@@ -352,8 +352,11 @@ def killed():
 
 def frozen():
     a, b = (top / "a").make(), (top / "b").make()
+    older = Tasks(b)
     t = Tasks(a)
     others = t.make(4)
+    older.end()
+    becomes("an older process ends", b.current, 0)
     a.write("cgroup.freeze", 1)
     becomes("a process with five threads is frozen", lambda: a.read("cgroup.events"), "populated 1\nfrozen 1\n")
     same("all count", (a.current(), a.threads()), (5, sorted([t.pid, *others])))
@@ -497,6 +500,19 @@ def undone():
     os.kill(child, signal.SIGKILL)
     t.end()
     becomes("and all end", lambda: (a.current(), b.current()), (0, 0))
+
+
+def without_number():
+    """A process whose birth is undone makes children in the root."""
+    a = (top / "a").make()
+    t = Tasks(a)
+    top.write(".makhloeum/undo", 2)
+    same("its move and its birth are undone", (a.current(), t.pid in top.procs()), (0, False))
+    child = t.ask("fork")
+    same("its child is in the root", (a.current(), child in top.procs()), (0, True))
+    os.kill(child, signal.SIGKILL)
+    t.end()
+    becomes("and then nowhere", lambda: child in top.procs(), False)
 
 
 def forgotten():
@@ -671,6 +687,7 @@ INSIDE = (
     left_behind,
     brought_back,
     undone,
+    without_number,
     forgotten,
     taken_back,
     joined,

@@ -1,6 +1,7 @@
 """Zombies under `makhloeum run`: what counts them, what lists them, and when they are gone, by each way in which a process ends. This
 file is also the program (zombies.py inside NAME)."""
 import ctypes
+import errno
 import mmap
 import os
 import select
@@ -10,8 +11,8 @@ import threading
 import time
 
 sys.path.insert(0, os.path.dirname(os.path.dirname(os.path.realpath(__file__))))
-from support import AT, PATIENCE, clone_into, error_of, finish, inside, into, libc, own_of, read, run_each, same
-from support import step, ticks, until, write
+from support import AT, PATIENCE, clone_into, error_of, finish, inside, into, is_alive, libc, own_of, read, run_each
+from support import same, step, ticks, until, write
 
 MADV_POPULATE_READ = 22  # Linux 5.14
 
@@ -245,6 +246,19 @@ def waited():
     same("one event for the fork that was refused", read(AT + "/p/pids.events"), b"max 1\n")
 
 
+def undone():
+    """The birth of one is undone: it counts no more, and once it is waited for it does not keep others from leaving."""
+    os.mkdir(AT + "/p")
+    stays, leaves = zombie("/p"), zombie("/p")
+    same("two are counted", count("/p"), 2)
+    write(AT + "/.makhloeum/undo", b"2")
+    same("one is not any more", count("/p"), 1)
+    os.waitpid(leaves, 0)
+    same("its end changes nothing", count("/p"), 1)
+    os.waitpid(stays, 0)
+    same("the end of the other one does", seen("/p"), EMPTY)
+
+
 def unheard():
     """More processes end than the server can be told of, while it is stopped."""
     os.mkdir(AT + "/many")
@@ -297,50 +311,87 @@ def many():
     step("in another one", found[2] <= 2 * found[0] + 15, found)
 
 
-def being_made(ends):
-    """A child is ended by `ends` when it has just been made in a group, by a parent elsewhere: the supervisor is stopped while the parent
-    makes one, so the child is there and is not listed yet. The parent has a table of many pages, which takes milliseconds to copy.
-    """
-    os.mkdir(AT + "/p")
-    group, supervisor, (r, w) = os.open(AT + "/p", os.O_RDONLY), os.getppid(), os.pipe()
-    maker = os.fork()
-    if maker == 0:
+class Maker:
+    """A process outside of /p that makes a child there at each turn, or one inside that forks. The child waits until it is killed. The
+    supervisor is stopped while it makes one, so the child is there and is not listed yet: the process has a table of many pages, which
+    takes milliseconds to copy."""
+
+    def __init__(self, is_inside=False):
+        os.mkdir(AT + "/p")
+        self.supervisor, self.turn, (r, self.starts), (self.told, w) = os.getppid(), 0, os.pipe(), os.pipe()
+        fd, self.pid = os.open(AT + "/p", os.O_RDONLY), os.fork()
+        if self.pid:
+            return
+        if is_inside:
+            into("/p")
         pages = mmap.mmap(-1, 1 << 30, mmap.MAP_PRIVATE | mmap.MAP_ANONYMOUS)
         pages.madvise(mmap.MADV_NOHUGEPAGE)
         pages[0] = 1  # the kernel copies no table of pages that were only read
         pages.madvise(MADV_POPULATE_READ)
-        args = (ctypes.c_uint64 * 11)(0x200000000, 0, 0, 0, signal.SIGCHLD, 0, 0, 0, 0, 0, group)  # CLONE_INTO_CGROUP
+        flags = 0 if is_inside else 0x200000000  # CLONE_INTO_CGROUP
+        args = (ctypes.c_uint64 * 11)(flags, 0, 0, 0, signal.SIGCHLD, 0, 0, 0, 0, 0, fd)
         while os.read(r, 1):
             pid = libc.syscall(435, args, 88)
             while pid == 0:
                 libc.pause()
-            os.waitpid(pid, 0)
-    children = lambda: read("/proc/%d/task/%d/children" % (maker, maker)).split()
-    listed = lambda: read(AT + "/p/cgroup.procs").split()
-    kill_group = lambda: write(AT + "/p/cgroup.kill", b"1")
-    reached, lives = 0, False
-    for turn in range(600):
-        os.write(w, b"x")
-        time.sleep(turn % 60 * 0.0001)
-        os.kill(supervisor, signal.SIGSTOP)
-        until(lambda: b"T" in read("/proc/%d/stat" % supervisor).split()[:3])
-        is_between = until(lambda: children() != [], 0.1) and listed() == []
+            os.write(w, b"%20s" % (b"ok" if pid > 0 else errno.errorcode[ctypes.get_errno()].encode()))
+            if pid > 0:
+                os.waitpid(pid, 0)
+
+    def children(self):
+        return [int(pid) for pid in read("/proc/%d/task/%d/children" % (self.pid, self.pid)).split()]
+
+    def listed(self):
+        return {int(pid) for pid in read(AT + "/p/cgroup.procs").split()} - {self.pid}
+
+    def begins(self):
+        """Whether there is a child now that is not listed. The supervisor is stopped in any case."""
+        os.write(self.starts, b"x")
+        time.sleep(self.turn % 60 * 0.0001)
+        self.turn += 1
+        os.kill(self.supervisor, signal.SIGSTOP)
+        until(lambda: b"T" in read("/proc/%d/stat" % self.supervisor).split()[:3])
+        return until(lambda: self.children() != [], 0.1) and not self.listed()
+
+    def goes_on(self):
+        os.kill(self.supervisor, signal.SIGCONT)
+
+    def came_to(self):
+        """What the call has come to."""
+        return os.read(self.told, 20).strip().decode()
+
+    def ends_child(self):
+        """Whether its child, if it has one, can be killed."""
+        for pid in self.children():
+            os.kill(pid, signal.SIGKILL)
+        return until(lambda: self.children() == [])
+
+    def ends(self):
+        os.kill(self.pid, signal.SIGKILL)
+        os.waitpid(self.pid, 0)
+
+
+def being_made(ends):
+    """A child is ended by `ends` when it has just been made."""
+    maker = Maker()
+    reached, lives, calls = 0, False, set()
+    while maker.turn < 600 and reached < 3 and not lives:
+        is_between = maker.begins()
         if is_between:
-            ends(int(children()[0]))
-        os.kill(supervisor, signal.SIGCONT)
+            ends(maker.children()[0])
+        maker.goes_on()
+        calls.add(maker.came_to())
         if not is_between:
-            until(listed)
-            kill_group()
-        lives = not until(lambda: children() == [])
+            until(maker.listed)
+            maker.ends_child()
+        lives = not until(lambda: maker.children() == [])
         reached += is_between
-        if lives or reached == 3:
-            break
-    print("  %d reached a child that was being made, in %d turns" % (reached, turn + 1))
+    print("  %d reached a child that was being made, in %d turns" % (reached, maker.turn))
     same("such a child lives", lives, False)
+    same("what the calls of its parent come to", calls, {"ok"})
     step("there were such children", reached > 0)
     step("and nobody counts", until(lambda: count("/p") == 0), count("/p"))
-    os.kill(maker, signal.SIGKILL)
-    os.waitpid(maker, 0)
+    maker.ends()
 
 
 def born():
@@ -358,7 +409,73 @@ def unborn():
     being_made(ends)
 
 
-INSIDE = (ways, beside, removed, unwaited, told, waited, unheard, many, born, unborn)
+def meanwhile(maker, change, back, wanted, counted):
+    """What becomes of a child whose group is changed while it is being made: what the call comes to, and who counts."""
+    is_between = False
+    while not is_between and maker.turn < 600:
+        is_between = maker.begins()
+        if is_between:
+            change()
+        maker.goes_on()
+        got = maker.came_to()
+        if not is_between:
+            maker.ends_child()
+    step("there was such a child, in %d turns" % maker.turn, is_between)
+    back()
+    same("its call, and how many count", (got, count("/p")), (wanted, counted))
+    if got == "ok":
+        step("it ends", maker.ends_child())
+    else:
+        step("it does not live", until(lambda: not any(map(is_alive, maker.children()))))
+    maker.ends()
+    step("and nobody counts", until(lambda: count("/p") == 0), count("/p"))
+
+
+def limit(value):
+    return lambda: write(AT + "/p/pids.max", value)
+
+
+def lowered():
+    """A limit that is lowered while a child is being made refuses the next one only."""
+    meanwhile(Maker(), limit(b"0"), limit(b"max"), "ok", 1)
+
+
+def lowered_inside():
+    """The same for a fork."""
+    meanwhile(Maker(is_inside=True), limit(b"1"), limit(b"max"), "ok", 2)
+    same("no fork was refused", read(AT + "/p/pids.events"), b"max 0\n")
+
+
+def kept():
+    """A limit that a child just keeps, and that is set while it is being made: the child is its parent's in the trace too."""
+    maker, lines = Maker(is_inside=True), []
+    child = lambda: lines.append((read(AT + "/.makhloeum/newest"), (maker.pid, *maker.children())))
+    meanwhile(maker, limit(b"2"), child, "ok", 2)
+    same("its line", [line for line, _ in lines], [b"fork %d %d\n" % pids for _, pids in lines])
+
+
+def gone():
+    """A child for a group that is removed while it is being made has no place."""
+    meanwhile(Maker(), lambda: os.rmdir(AT + "/p"), lambda: os.mkdir(AT + "/p"), "ENOENT", 0)
+
+
+INSIDE = (
+    ways,
+    beside,
+    removed,
+    unwaited,
+    told,
+    waited,
+    undone,
+    unheard,
+    many,
+    born,
+    unborn,
+    lowered,
+    lowered_inside,
+    kept,
+    gone,
+)
 inside(*INSIDE)
 run_each(dict.fromkeys(INSIDE, ["--control"]), lanes=3)
 finish()

@@ -787,6 +787,59 @@ static void adds_long_filters(void)
 	put_made("beside long filters", SYS_clone3);
 }
 
+/* As long as one may be that lets clone3 pass, and clone not. */
+static void adds_the_longest(void)
+{
+	enum { LONGEST = BPF_MAXINSNS - 6 };
+	static struct sock_filter code[LONGEST] = {
+		BPF_STMT(BPF_LD | BPF_W | BPF_ABS, offsetof(struct seccomp_data, nr)),
+		BPF_JUMP(BPF_JMP | BPF_JEQ | BPF_K, SYS_clone, 0, 1),
+		BPF_STMT(BPF_RET | BPF_K, SECCOMP_RET_ERRNO | EPERM),
+	};
+	for (size_t i = 3; i < LONGEST; i++)
+		code[i] = (struct sock_filter)BPF_STMT(BPF_RET | BPF_K, SECCOMP_RET_ALLOW);
+	put("the longest filter", add(code, LONGEST, false));
+	put_made("beside the longest filter", SYS_clone3);
+	put_made("beside the longest filter, clone", SYS_clone);
+}
+
+#if defined(__x86_64__)
+/* The 128 bytes below the stack pointer are those of the function that adds the filter. */
+static void keeps_what_is_below(void)
+{
+	static struct sock_filter code[] = { BPF_STMT(BPF_RET | BPF_K, SECCOMP_RET_ALLOW) };
+	const struct sock_fprog program = { 1, code };
+	long result = SYS_seccomp, first, middle, last;
+	prctl(PR_SET_NO_NEW_PRIVS, 1, 0, 0, 0);
+	__asm__ volatile("movq $71, -128(%%rsp)\n\tmovq $72, -72(%%rsp)\n\tmovq $73, -16(%%rsp)\n\tsyscall\n\t"
+					 "movq -128(%%rsp), %1\n\tmovq -72(%%rsp), %2\n\tmovq -16(%%rsp), %3"
+					 : "+a"(result), "=&r"(first), "=&r"(middle), "=&r"(last)
+					 : "D"((long)SECCOMP_SET_MODE_FILTER), "S"(0L), "d"(&program)
+					 : "rcx", "r11", "memory");
+	printf("below the stack pointer of a call that returns %ld: %ld %ld %ld\n", result, first, middle, last);
+}
+
+/* A stack of a language may have anything below it, also farther below. */
+static void keeps_what_is_below_its_own_stack(void)
+{
+	enum { HALF = 4096, MARK = 7 };
+	static char own[2 * HALF] __attribute__((aligned(16)));
+	static struct sock_filter code[] = { BPF_STMT(BPF_RET | BPF_K, SECCOMP_RET_ALLOW) };
+	static struct sock_fprog program = { 1, code };
+	long result = SYS_seccomp;
+	size_t changed = 0;
+	prctl(PR_SET_NO_NEW_PRIVS, 1, 0, 0, 0);
+	memset(own, MARK, sizeof own);
+	__asm__ volatile("movq %%rsp, %%rbx\n\tmovq %4, %%rsp\n\tsyscall\n\tmovq %%rbx, %%rsp"
+					 : "+a"(result)
+					 : "D"((long)SECCOMP_SET_MODE_FILTER), "S"(0L), "d"(&program), "r"(own + HALF)
+					 : "rbx", "rcx", "r11", "memory");
+	for (size_t i = 0; i < sizeof own; i++)
+		changed += own[i] != MARK;
+	printf("below its own stack, in a call that returns %ld: %zu bytes changed\n", result, changed);
+}
+#endif
+
 static void judged(void)
 {
 	static const struct {
@@ -803,6 +856,11 @@ static void judged(void)
 	}
 	in_child(uses_the_register);
 	in_child(adds_long_filters);
+	in_child(adds_the_longest);
+#if defined(__x86_64__)
+	in_child(keeps_what_is_below);
+	in_child(keeps_what_is_below_its_own_stack);
+#endif
 }
 
 int main(int argc, char **argv)

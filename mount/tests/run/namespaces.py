@@ -281,6 +281,12 @@ def others():
     for name, how, script, wanted in (
         ("proc", "-mpf", "mount -t proc proc %s; cat %s/1/comm" % (at, at), "sh\n"),
         (
+            "an option that it does not have, in a PID namespace",
+            "-mpf",
+            "mount -t tmpfs -o nosuch=1 x %s 2>/dev/null || echo refused" % at,
+            "refused\n",
+        ),
+        (
             "its options",
             "-m",
             "mount -t tmpfs -o mode=711,size=8k,nodev x %s; stat -c %%a:%%u %s; grep -o 'rw,nodev.*size=8k' /proc/self/mounts"
@@ -330,6 +336,7 @@ def others():
     same("one with a capability for it", (overlay(), libc.umount2(at.encode(), DETACH)), ("ok", 0))
     os.chmod(home + "/closed", 0o700)  # else its owner can't remove what is in it
     nowhere("tmpfs")
+    same("with one", (libc.mount(b"other", at.encode(), b"tmpfs", 0, None), libc.umount2(at.encode(), DETACH)), (0, 0))
     same("without a source", libc.mount(None, at.encode(), b"tmpfs", 0, None), 0)
     source = next(x.split()[0] for x in open("/proc/self/mounts") if x.split()[1] == at)
     same("it has none", (source, libc.umount2(at.encode(), DETACH)), ("none", 0))
@@ -338,6 +345,7 @@ def others():
         (1, ["ro"]),
         (2 | 4 | 8, ["rw", "nosuid", "nodev", "noexec"]),
         (1024, ["rw", "noatime"]),
+        (1 << 24, ["rw", "size=8k"]),  # MS_STRICTATIME
     ):
         libc.mount(b"none", at.encode(), b"tmpfs", flags, b"size=8k")
         has = next(x.split()[3].split(",") for x in open("/proc/self/mounts") if x.split()[1] == at)
@@ -356,6 +364,7 @@ def others():
         got = libc.mount(source, at.encode(), kind, 0xC0ED0000 | flags, None), os.listdir(at)
         same("an old mark in the flags, and %#x" % flags, got, (0, ["here"] if flags else []))
         libc.umount2(at.encode(), DETACH)
+    changed_mounts(at, home + "/up")
     for kind, data in (
         (b"fuse", b"fd=%d,rootmode=40000,user_id=0,group_id=0"),
         (b"fuse", b"rootmode=40000,user_id=0,group_id=0,fd=%d"),
@@ -384,6 +393,26 @@ def others():
     os.waitpid(pid, 0)
     wanted = [(["here", "new"], 0)] * 3 + [(0, False), (0, True)]
     same("paths in a root of its own", os.read(r, 999), repr(wanted).encode())
+
+
+def changed_mounts(at, elsewhere):
+    """Changes of a mount, which name no type: the kernel makes them."""
+    libc.mount(b"none", at.encode(), b"tmpfs", 0, None)
+    for name, flags, wanted in (
+        ("shared", SHARED, "shared:"),
+        ("a slave of nobody", SLAVE, ""),
+        ("private", PRIVATE, ""),
+        ("unbindable", UNBINDABLE, "unbindable"),
+        ("read-only", REMOUNT | 1, "unbindable"),
+        ("read-only, by an old mark", 0xC0ED0000 | REMOUNT | 1, "unbindable"),
+    ):
+        got = libc.mount(None, at.encode(), None, flags, None)
+        words = next(x.split() for x in open("/proc/self/mountinfo") if x.split()[4] == at)
+        said = (words[5].split(",")[0], " ".join(words[6 : words.index("-")])[: len(wanted or "x")])
+        same("a mount becomes %s" % name, (got, said), (0, ("ro" if flags & 1 else "rw", wanted)))
+    for source, target, mark in ((at, elsewhere, 0), (elsewhere, at, 0xC0ED0000)):
+        same("it is moved, %#x" % mark, libc.mount(source.encode(), target.encode(), None, mark | MOVE, None), 0)
+    same("and is there", libc.umount2(at.encode(), DETACH), 0)
 
 
 def mounted_by_thread(at):
@@ -446,7 +475,8 @@ def rewritten():
     )
 
 
-DETACH, BIND, MOVE, REC = 2, 0x1000, 0x2000, 0x4000
+DETACH, REMOUNT, BIND, MOVE, REC = 2, 0x20, 0x1000, 0x2000, 0x4000
+UNBINDABLE, PRIVATE, SLAVE, SHARED = 1 << 17, 1 << 18, 1 << 19, 1 << 20
 SYS_ADMIN = 1 << 21  # the capability
 
 
@@ -618,6 +648,8 @@ def closed():
             what = "%s, dumpable %d" % (name.rpartition("/fd/")[0] or name, dumpable)
             same(what, read(name) if error_of(read, name) == "ok" else error_of(read, name), b"0::/a\n")
         same("another file, dumpable %d" % dumpable, read("/proc/self/fd/%d" % other), read("/etc/hostname"))
+        got = error_of(os.open, "/proc/self/fd/%d" % held, os.O_RDONLY | os.O_NOFOLLOW)
+        same("a link that is not followed, dumpable %d" % dumpable, got, "ELOOP")
         got = os.read(os.open("cgroup", os.O_RDONLY, dir_fd=folder), 99)
         same("from a descriptor of /proc/self, dumpable %d" % dumpable, got, b"0::/a\n")
         kinds = [magic_of(libc.statfs, AT.encode()), magic_of(libc.fstatfs, group)]
@@ -867,6 +899,9 @@ def numbered(at=AT):
     other.wait()
 
 
+HOLDS = "import os, time; os.dup2(os.open('/proc/self/cgroup', os.O_PATH), 9); time.sleep(600)"
+
+
 def others_of(at, here, there, below):
     """A /proc of a namespace seen from one below it, and from outside."""
     script = """exec unshare -pf sh -c 'echo 0 >"$1/c/cgroup.procs"; exec grep -h ^0:: /proc/self/cgroup /proc/thread-self/cgroup' sh %s"""
@@ -875,11 +910,14 @@ def others_of(at, here, there, below):
     # the first process of a namespace, and of one below it, which has another number there
     script = """for n in 1 2 3 4 5; do sh -c : & done; wait
 echo 0 >"$1/b/cgroup.procs"
-exec unshare -pf sh -c 'echo 0 >"$1/c/cgroup.procs"; read n rest </proc/self/stat; echo $n; exec sleep 600' sh "$1" """
-    p, first, deepest = container(script, at)
+exec unshare -pf sh -c 'echo 0 >"$1/c/cgroup.procs"; read n rest </proc/self/stat; echo $n; exec "$2" -c "$3"' sh "$@" """
+    p, first, deepest = container(script, at, sys.executable, HOLDS)
     root = "/proc/%d/root/proc" % first
     names = ["%s/%s/cgroup" % (root, who) for who in ("1", "1/task/1", deepest, "%s/task/%s" % (deepest, deepest))]
     same("a /proc of others", [own_line(name) for name in names], [[there], [there], [below], [below]])
+    held = ["%s/%s/fd/9" % (root, who) for who in (deepest, "%s/task/%s" % (deepest, deepest))]
+    step("one of them holds a text", until(lambda: os.path.islink(held[0])))
+    same("by its descriptor", [own_line(name) for name in held], [[below], [below]])
     for name in ("self", "thread-self"):
         same("who isn't there has no %s" % name, error_of(read, "%s/%s/cgroup" % (root, name)), "ENOENT")
     script = "exec nsenter -t %d -p -m grep -h ^0:: /proc/self/cgroup /proc/1/cgroup /proc/%s/cgroup" % (first, deepest)
@@ -909,9 +947,18 @@ KNOWN = b"""ro rw sync async dirsync lazytime nolazytime mand nomand nsdelegate 
 memory_hugetlb_accounting pids_localevents""".split()
 
 
+# Values that are neither flags nor texts.
+OF_OTHER_KINDS = (
+    (SET_BINARY, b"yy", 2),
+    (SET_PATH, b"/", -100),
+    (SET_PATH_EMPTY, b"", -100),
+    (SET_FD, None, 0),
+)
+
+
 def attributes(path):
     """Mounts with the attributes that fsmount takes: what the tables of mounts say of them."""
-    times = {"noatime", "relatime", "nodiratime"}
+    times, above = {"noatime", "relatime", "nodiratime"}, os.open(os.path.dirname(path), os.O_PATH)
     for attribute, some, others in (
         (0, {"rw", "relatime"}, {"ro", "nodiratime", "nosymfollow"}),
         (0x1, {"ro", "relatime"}, {"rw"}),
@@ -927,7 +974,9 @@ def attributes(path):
         fd = called(FSOPEN, b"cgroup2", 0)
         configure(fd, CREATE)
         top = called(FSMOUNT, fd, 0, attribute)
-        same("attribute %#x: moved" % attribute, called(MOVE_MOUNT, top, b"", -100, path.encode(), 4), 0)
+        same("attribute %#x: it stays open at an exec" % attribute, fcntl.fcntl(top, fcntl.F_GETFD), 0)
+        moved = called(MOVE_MOUNT, top, b"", above, os.path.basename(path).encode(), 4)
+        same("attribute %#x: moved" % attribute, moved, 0)
         for name, place, column in (("mountinfo", 4, 5), ("mounts", 1, 3)):
             lines = [x.split() for x in open("/proc/self/" + name)]
             has = set(next(x[column] for x in lines if x[place] == path).split(","))
@@ -935,6 +984,7 @@ def attributes(path):
         libc.umount2(path.encode(), DETACH)
         os.close(top)
         os.close(fd)
+    os.close(above)
 
 
 def configured(at=AT):
@@ -955,6 +1005,7 @@ def configured(at=AT):
     fd = called(FSOPEN, b"cgroup2", 1)
     got = [error_of(os.read, fd, 9), error_of(os.write, fd, b"x"), error_of(os.lseek, fd, 0, 0)]
     same("read, write and lseek", got, ["ENODATA", "EINVAL", "ESPIPE"])
+    same("its permissions", os.fstat(fd).st_mode & 0o777, 0o600)
     same("writes of any size", {error_of(os.write, fd, bytes(size)) for size in range(1, 99)}, {"EINVAL"})
     same("not made yet", (called(FSMOUNT, fd, 0, 0), configure(fd, RECONFIGURE)), ("EINVAL", "EBUSY"))
     wrong = [called(FSMOUNT, fd, *words) for words in ((2, 0), (0, 1 << 30), (0, 0x100000), (0, 0x30), (0, 0x60))]
@@ -981,10 +1032,15 @@ def configured(at=AT):
         ((SET_STRING, b"source"), "EINVAL"),
         ((SET_STRING, b"nsdelegate", b"1"), "EINVAL"),
         ((SET_STRING, b"rw", b"1"), 0),
+        ((SET_STRING, b"rw", b"1" * 255), 0),
+        ((SET_STRING, b"rw", b"1" * 256), "EINVAL"),
         ((SET_STRING, b"rw", b"1", 1), "EINVAL"),
         ((SET_STRING, None, b"1"), "EINVAL"),
         ((SET_STRING, nowhere_to_read, b"x"), "EFAULT"),
         ((SET_STRING, b"source", nowhere_to_read), "EFAULT"),
+        ((SET_STRING, b"k" * 256, nowhere_to_read), "EINVAL"),
+        *(((command, b"rw", *words), 0) for command, *words in OF_OTHER_KINDS),
+        *(((command, b"nsdelegate", *words), "EINVAL") for command, *words in OF_OTHER_KINDS),
         ((SET_BINARY, b"x", b"yy", 2), "EINVAL"),
         ((SET_BINARY, b"x", b"", 0), "EINVAL"),
         ((SET_PATH, b"source", b"/", -100), "EINVAL"),
@@ -994,14 +1050,17 @@ def configured(at=AT):
         ((SET_FD, b"source", None, -1), "EINVAL"),
     ):
         same("fsconfig %s" % (words,), configure(fd, *words), wanted)
-    same("of other descriptors", [configure(n, CREATE) for n in (0, 999, -1)], ["EINVAL", "EBADF", "EINVAL"])
+    text = os.open("/proc/self/cgroup", os.O_RDONLY)
+    same(
+        "of other descriptors", [configure(n, CREATE) for n in (0, 999, -1, text)], ["EINVAL", "EBADF", *["EINVAL"] * 2]
+    )
     same("nor mounts", [called(FSMOUNT, n, 0, 0) for n in (0, 999)], ["EINVAL", "EBADF"])
     got = [configure(fd, CREATE), configure(fd, CREATE), configure(fd, SET_FLAG, b"rw"), configure(fd, RECONFIGURE)]
     same("made once", got, [0, "EBUSY", "EBUSY", "EBUSY"])
     wrong = [called(FSMOUNT, fd, *words) for words in ((2, 0), (0, 1 << 30), (0, 0x100000), (0, 0x30), (0, 0x60))]
     same("wrong flags and attributes of what is made", wrong, ["EINVAL"] * 5)
-    got = [configure(fd, SET_BINARY, b"x", b"yy", size) for size in (2, 0, -1, (1 << 20) + 1)]
-    same("the size of a value is checked before that", got, ["EBUSY", "EINVAL", "EINVAL", "EINVAL"])
+    got = [configure(fd, SET_BINARY, b"x", bytes(1 << 20), size) for size in (2, 0, -1, 1 << 20, (1 << 20) + 1)]
+    same("the size of a value is checked before that", got, ["EBUSY", "EINVAL", "EINVAL", "EBUSY", "EINVAL"])
     for command, value, number, wanted in (
         (SET_PATH, b"/", -100, "EBUSY"),
         (SET_PATH, b"/", 0, "EBUSY"),
@@ -1023,6 +1082,8 @@ def configured(at=AT):
     step("its root by the descriptor", os.stat("cgroup.procs", dir_fd=top))
     same("not twice", (called(FSMOUNT, fd, 1, 0), configure(fd, CREATE)), ("EBUSY", "EBUSY"))
     same("options after it", (configure(fd, SET_FLAG, b"rw"), configure(fd, SET_FLAG, b"nosuch")), (0, "EINVAL"))
+    got = [configure(fd, SET_STRING, b"source", b"none") for _ in range(2)]
+    same("a source again, and a second one", got, [0, "EINVAL"])
     if at == AT:
         same("and a change is the machine's superuser's", configure(fd, RECONFIGURE), "EPERM")
         same("then all is over", (configure(fd, SET_FLAG, b"rw"), called(FSMOUNT, fd, 0, 0)), ("EBUSY", "EBUSY"))
@@ -1039,7 +1100,8 @@ def configured(at=AT):
         (link, 4, "EINVAL"),
     ):
         same("moved to %s, flags %d" % (to.decode(), flags), called(MOVE_MOUNT, top, b"", -100, to, flags), wanted)
-    same("moved, by a link", called(MOVE_MOUNT, top, b"", -100, link, 4 | 0x10), 0)
+    same("moved from a name", called(MOVE_MOUNT, top, b"x", -100, where, 4), "ENOENT")
+    same("moved, by a link", called(MOVE_MOUNT, top, b"", -100, link, 0x1 | 0x2 | 0x4 | 0x10 | 0x20), 0)
     os.close(top)
     same("it is of the hierarchy", os.stat(path).st_ino == os.stat(place).st_ino, True)
     line = [x.split() for x in open("/proc/self/mountinfo") if " %s " % path in x]
@@ -1053,9 +1115,12 @@ def configured(at=AT):
     same("it is mounted already", got, [0, "EBUSY", "EBUSY"])
     os.close(fd)
     fd = os.open(path, os.O_PATH)
-    for to, flags in ((b"", 8), (where, 0), (where, 2 | 4), (link, 0)):
+    for to, flags in ((b"", 8), (b".", 0), (where, 0), (where, 2 | 4), (link, 0)):
         picked = called(FSPICK, fd, to, flags)
-        step("picked as %s, %d" % (to.decode(), flags), type(picked) is not str and os.close(picked) is None, picked)
+        same("picked as %s, %d: stays at an exec" % (to.decode(), flags), fcntl.fcntl(picked, fcntl.F_GETFD), 0)
+        if at == AT:
+            same("and is of cgroup2", configure(picked, SET_FLAG, b"nsdelegate"), 0)
+        os.close(picked)
     for to, flags, wanted in (
         (where, 16, "EINVAL"),
         (where + b"/cgroup.procs", 0, "EINVAL"),
@@ -1100,7 +1165,7 @@ def kept_apart():
     libc.umount2(path.encode(), DETACH)
     fd = called(FSOPEN, b"cgroup2", 0)
     configure(fd, CREATE)
-    top = called(FSMOUNT, fd, 0, 0)
+    top, fresh = called(FSMOUNT, fd, 0, 0), called(FSOPEN, b"cgroup2", 0)
     if os.fork() == 0:
         time_of_capabilities = (ctypes.c_uint32 * 2)(0x20080522, 0), (ctypes.c_uint32 * 6)()
         libc.capset(*time_of_capabilities)
@@ -1108,8 +1173,10 @@ def kept_apart():
             called(MOVE_MOUNT, top, b"", -100, path.encode(), 4),
             called(FSMOUNT, fd, 0, 0),
             called(FSOPEN, b"cgroup2", 2),
+            configure(fresh, CREATE),
+            called(FSPICK, -100, AT.encode(), 0),
         ]
-        os._exit(0 if got == ["EPERM"] * 3 else 1)
+        os._exit(0 if got == ["EPERM"] * 5 else 1)
     same("without privileges", os.wait()[1], 0)
     os.rmdir(path)
 

@@ -150,9 +150,9 @@ def opens():
     write(AT + "/cgroup.subtree_control", b"+cpuset")
     os.mkdir(AT + "/a/b")
     write(AT + "/a/b/cgroup.procs", b"0")
-    write(AT + "/cgroup.subtree_control", b"+memory")
-    write(AT + "/a/cgroup.subtree_control", b"+memory")
-    same("a group has another controller", read(AT + "/a/b/cgroup.controllers"), b"memory\n")
+    write(AT + "/cgroup.subtree_control", b"+cpu")
+    write(AT + "/a/cgroup.subtree_control", b"+cpu")
+    same("a group has another controller", read(AT + "/a/b/cgroup.controllers"), b"cpu\n")
     same("/proc/self/cpuset is of the nearest group that has one", read("/proc/self/cpuset"), b"/a\n")
     write(AT + "/a/cgroup.subtree_control", b"+cpuset")
     write(AT + "/cgroup.procs", b"0")
@@ -246,6 +246,13 @@ def tables():
         step("it is in the table", b" %s " % deep.replace(b" ", rb"\040") in text(by_link))
         libc.umount2(deep, DETACH)
         shutil.rmtree(home + b"/" + 200 * b" ")
+        device = os.open("/dev/fuse", os.O_RDWR)
+        data = b"fd=%d,rootmode=40000,user_id=0,group_id=0" % device
+        same("another's mount of this type", libc.mount(b"x", home, b"fuse.cgroup2", 0, data), 0)
+        line = next(line.split() for line in text(by_link).splitlines() if home in line.split())
+        step("it is shown as it is", b"x" in line and b"fuse.cgroup2" in line, line)
+        libc.umount2(home, DETACH)
+        os.close(device)
         os.close(fd)
         same("the link is still open", text(by_link) != b"", True)
         os.close(by_link)
@@ -300,6 +307,14 @@ def run(test):
     same("%s: its status" % test.__name__, ran.returncode, 0)
 
 
+def enabled():
+    """The controllers that /proc/cgroups has, with each one that is kept."""
+    for keep, names in (("cpuset", ["cpuset"]), ("cpu", ["cpu", "cpuacct"]), ("io", ["blkio"]), ("memory", ["memory"])):
+        words = [PROGRAM, "run", "--keep", keep, "cat", "/proc/cgroups"]
+        lines = subprocess.run(words, stdout=subprocess.PIPE, timeout=PATIENCE).stdout.decode().splitlines()[1:]
+        same("kept is %s" % keep, [x.split()[0] for x in lines if x.split()[3] == "1"], [*names, "pids"])
+
+
 def reopened():
     """A file of a controller that was disabled stays without one, also if the controller is enabled again."""
     m = Mount("--keep", "memory")
@@ -320,6 +335,6 @@ def reopened():
     m.end()
 
 
-wanted = [t for t in (*INSIDE, reopened) if t.__name__ in sys.argv[1:] or not sys.argv[1:]]
+wanted = [t for t in (*INSIDE, enabled, reopened) if t.__name__ in sys.argv[1:] or not sys.argv[1:]]
 in_parallel(lambda t: run(t) if t in INSIDE else t(), wanted)
 finish()

@@ -19,7 +19,11 @@ TESTS = (
     ("run/noticed", "children", "opens", "tables"),
     ("processes/refused", "births"),
     ("run/alike", "waits", "opens"),
-    ("hostile/blocking", "leaderless"),  # a namespace's directory that is held back holds up a run before Linux 6.11
+    (
+        "hostile/blocking",
+        "leaderless",
+        "meaning",
+    ),  # a namespace's directory that is held back holds up a run before Linux 6.11
 )
 
 

@@ -119,6 +119,21 @@ def forks():
     same("threads that fork in parallel reach the limit, and not more", got, [17] * 3)
 
 
+def fits():
+    """A child that fills its group is its parent's, also if the hierarchy was used while it was made."""
+    user = os.fork()
+    while user == 0:
+        os.stat(AT + "/cgroup.procs")
+    os.mkdir(AT + "/a")
+    into("/a")
+    write(AT + "/a/pids.max", b"2\n")
+    same("two hundred forks", {fork_error() for _ in range(200)}, {0})
+    os.kill(user, signal.SIGKILL)
+    os.waitpid(user, 0)
+    made = [line.split()[1] for line in read(AT + "/.makhloeum/trace").splitlines() if line.startswith(b"fork ")]
+    same("the parent of each", set(made[-200:]), {b"%d" % os.getpid()})
+
+
 def fork_in_thread():
     """pids.current once twelve threads have tried to fork at the same time, and before any thread or child ends."""
     all_there, all_tried, looked = threading.Barrier(12), threading.Barrier(13), threading.Barrier(13)
@@ -432,6 +447,24 @@ def terminal():
     os.close(fd)
 
 
+def at_terminal():
+    """A program at a terminal has its three streams, and no descriptor of makhloeum."""
+    pid, fd = pty.fork()
+    if pid == 0:
+        os.closerange(3, 1024)  # what the caller of this test left open
+        code = "import os; print(*sorted(os.listdir('/proc/self/fd')))"  # one is that of the listing
+        os.execv(PROGRAM, [PROGRAM, "run", sys.executable, "-I", "-S", "-c", code])
+    said = b""
+    while select.select([fd], [], [], PATIENCE)[0]:
+        try:
+            said += os.read(fd, 99)
+        except OSError:  # nobody has the terminal open any more
+            break
+    same("descriptors of a program at a terminal", said.split(), [b"0", b"1", b"2", b"3"])
+    os.waitpid(pid, 0)
+    os.close(fd)
+
+
 SLEEPS = [
     "sleep %d.%d" % (seconds, os.getpid()) for seconds in (601, 602, 603, 604, 605)
 ]  # no other test has these, and none waits for their end
@@ -601,7 +634,7 @@ def refused_here():
         )
 
 
-INSIDE = (looks, forks, quiet, of_thread, kills, clones, stops, taken_back)
+INSIDE = (looks, forks, fits, quiet, of_thread, kills, clones, stops, taken_back)
 if sys.argv[1:2] == ["inside"]:
     {t.__name__: t for t in INSIDE}[sys.argv[2]]()
     finish()
@@ -630,6 +663,6 @@ for test in INSIDE:
             "cgreplay gives the same answers (%d lines)" % sum(1 for _ in open(trace)),
             subprocess.run(CGREPLAY, stdin=lines, stdout=subprocess.PIPE).stdout == wanted.read(),
         )
-for test in (statuses, terminal, soon, beside, ends, unheard, refused_here):
+for test in (statuses, terminal, at_terminal, soon, beside, ends, unheard, refused_here):
     test()
 finish()

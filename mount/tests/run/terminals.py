@@ -165,19 +165,37 @@ def second():
 def default():
     """A program without a handler: ^Z, bg, a stop by the shell, ^C."""
     t = Terminal("sleep")
+    t.asks("set -o posix; echo $((40 + 2))", "42\r\n", "a shell that names the signal by which a job is stopped")
     t.type(RUN + "sh -c 'echo ready; exec sleep 600'\n")
     t.waits_for("\nready\r\n", "it runs")
     group = t.foreground()
     t.type("\x1a")
-    t.stopped("Stopped ", "^Z")
+    t.stopped(r"Stopped\(SIGTSTP\) ", "^Z")
     t.asks("bg", "sleep 600' &\r\n", "bg continues it")
     t.asks("jobs", "Running ", "it runs in the background")
     t.type("kill -STOP %1; wait -n; jobs\n")
-    t.stopped("Stopped ", "the shell stops it")
+    t.stopped(r"Stopped\(SIGSTOP\) ", "the shell stops it")
     t.type("fg\n")
     step("sleep: it has the terminal", until(lambda: t.foreground() == group))
     t.type("\x03")
     t.waits_for(r"\^C[^$]*" + re.escape(PROMPT), "^C ends it")
+    t.ends(130)
+
+
+def deaf():
+    """A second process that ignores the stop keeps no shell waiting."""
+    t = Terminal("a second process that ignores the stop")
+    ignores = "(trap '' TSTP; exec sleep 600)"
+    t.type(RUN + 'sh -c "%s & echo ready; exec sleep 600"\n' % ignores)
+    t.waits_for("\nready\r\n", "it runs")
+    group = t.foreground()
+    for times in ("first", "second"):
+        t.type("\x1a")
+        t.stopped("Stopped ", "^Z, the %s time" % times)
+        t.type("fg\n")
+        step("it has the terminal", until(lambda: t.foreground() == group))
+    t.type("\x03")
+    t.waits_for(re.escape(PROMPT), "^C ends it")
     t.ends(130)
 
 
@@ -425,7 +443,7 @@ def without():
 
 
 needs = {vim: ("vim.tiny", "vim"), less: ("less",), dash: ("dash",)}
-tests = [handler_of_itself, handler_of_group, second, default, stops_itself, bash, dash, vim, less, python]
+tests = [handler_of_itself, handler_of_group, second, default, deaf, stops_itself, bash, dash, vim, less, python]
 tests += [background, pipeline, window, waits, hung_up, without]
 asked = [t for t in tests if t.__name__ in sys.argv[1:] or not sys.argv[1:]]
 for test in [t for t in asked if t in needs and not any(map(shutil.which, needs[t]))]:

@@ -2,17 +2,18 @@
 `unshare --map-root-user --map-auto` makes. This file is also the program."""
 import ctypes
 import errno
+import glob
 import os
 import shutil
 import subprocess
 import sys
 
 sys.path.insert(0, os.path.dirname(os.path.dirname(os.path.realpath(__file__))))
-from support import PATIENCE, PROGRAM, error_of, finish, libc, own_of, read, same, step
+from support import PATIENCE, PROGRAM, error_of, finish, libc, own_of, read, same, server_and_helper, step, until
 
 ME = os.path.realpath(__file__)
 OTHER, GROUP = 1, 2
-AT = b"/sys/fs/cgroup"
+AT = "/sys/fs/cgroup"
 
 
 def numbers(which):
@@ -61,7 +62,7 @@ def inside(outside):
         (0, "0:0\n", ""),
     )
     os.rmdir(place)
-    same("the hierarchy cannot be unmounted", (libc.umount2(AT, 2), ctypes.get_errno()), (-1, errno.EINVAL))
+    same("the hierarchy cannot be unmounted", (libc.umount2(AT.encode(), 2), ctypes.get_errno()), (-1, errno.EINVAL))
     supervisor = os.getppid()
     for name in ("mem", "ns/user", "fd/0"):
         same("the supervisor's %s" % name, error_of(os.open, "/proc/%d/%s" % (supervisor, name), os.O_RDONLY), "EACCES")
@@ -76,6 +77,42 @@ def alone():
         got = [error_of(os.open, "/proc/%d/%s" % (pid, name), os.O_RDONLY) for pid in makhloeum]
         same("their %s" % name, got, ["EACCES"] * 4)
     finish()
+
+
+def kept():
+    """What the processes of a run have open: the helper no descriptor of the caller or of the supervisor that it does not use, and no
+    two of them the same socket, but for the one by which the supervisor's helper passes tables."""
+    passed = sum((os.pipe() for _ in range(9)), ())
+    words = [PROGRAM, "run", "sh", "-c", "echo; exec cat"]
+    p = subprocess.Popen(words, stdin=subprocess.PIPE, stdout=subprocess.PIPE, pass_fds=passed)
+    same("it runs", p.stdout.readline(), b"\n")
+    server, helper = server_and_helper(p.pid)
+    (companion,) = set(own_of(p.pid)) - {server, helper}
+
+    def links(pid):
+        numbers = (int(os.path.basename(name)) for name in glob.glob("/proc/%d/fd/*" % pid))
+        return [os.readlink("/proc/%d/fd/%d" % (pid, fd)) for fd in sorted(numbers) if fd > 2]
+
+    def shared():
+        sockets = [
+            {link for link in links(pid) if link.startswith("socket:")} for pid in (p.pid, server, helper, companion)
+        ]
+        return [len(sockets[a] & sockets[b]) for a in range(4) for b in range(a)]
+
+    kinds = lambda: sorted(link.partition(":")[0] for link in links(helper))
+    wanted = [
+        "/",
+        AT,
+        AT + "/.makhloeum.d",
+        "anon_inode",
+        "socket",
+        "socket",
+    ]  # its root, those of the mount, and a listener
+    step("what the helper has", until(lambda: kinds() == wanted), kinds())
+    same("sockets that two of the four have", shared(), [0, 1, 0, 0, 0, 0])
+    p.communicate()
+    for fd in passed:
+        os.close(fd)
 
 
 if sys.argv[1:] == ["alone"]:
@@ -102,6 +139,7 @@ ran = subprocess.run([PROGRAM, "run", "--users", sys.executable, ME, "inside", m
 same("a run with all users: its status", ran.returncode, 0)
 ran = subprocess.run([PROGRAM, "run", sys.executable, ME, "alone"], timeout=6 * PATIENCE)
 same("a run of the superuser: its status", ran.returncode, 0)
+kept()
 # another group than that of the user's number
 script = """id -u; id -g; cat /proc/self/uid_map /proc/self/gid_map /proc/self/setgroups; cd /sys/fs/cgroup; mkdir g
 stat -c %u:%g . .makhloeum .makhloeum/fork g g/pids.max; echo 0 >g/cgroup.procs; cat /proc/self/cgroup"""

@@ -129,6 +129,13 @@ def below():
     got = ran(PROGRAM, "run", sys.executable, "-c", CLIMBS, str(fd), pass_fds=[fd])
     same("a directory that is covered by another", got, (0, "closed\n", ""))
     os.close(fd)
+    # the roots of both have the same inode number
+    fd = os.open(covered, os.O_RDONLY | os.O_DIRECTORY)
+    subprocess.run(["mount", "-t", "tmpfs", "none", covered], check=True)
+    same("two file systems, one number", os.stat(covered).st_ino, os.fstat(fd).st_ino)
+    got = ran(PROGRAM, "run", sys.executable, "-c", CLIMBS, str(fd), pass_fds=[fd])
+    same("a file system that is covered by another", got, (0, "closed\n", ""))
+    os.close(fd)
     places = [os.path.join(home, name) for name in ("new", "elsewhere", "first")]
     for place in places:
         os.mkdir(place)

@@ -1,13 +1,12 @@
 /* Parts of the mount that can be called alone: the texts of /proc (proc_status.c), reservations (reservations.c), what the supervisor
    tells (supervisor_events.c) and asks the server (link.c), what is allowed in advance (advance.c), descriptors that are passed
-   (descriptor_passing.c), arrays (growing_array.c), and an operation of several lines in a long trace (engine.c). */
+   (descriptor_passing.c), and arrays (growing_array.c). */
 #include "channels/advance.h"
 #include "channels/descriptor_passing.h"
 #include "channels/questions.h"
 #include "channels/supervisor_events.h"
 #include "common/growing_array.h"
 #include "common/proc_status.h"
-#include "engine/engine.h"
 #include "processes/reservations.h"
 #include "supervisor/link.h"
 #include <errno.h>
@@ -218,7 +217,42 @@ static void advance(void)
 		there &= advance_take(process, true) == 6;
 	}
 	is("a child's is no thread's", apart);
-	is("each is there, once", there && advance_take_any() == 0);
+	is("each is there, once", there);
+	advance_give(1, true, 7);
+	is("one that nobody took is taken back", advance_take_any() == 7 && advance_take_any() == 0);
+}
+
+/* One child and some threads of each process. Whatever nobody has taken can be taken back, each once, also that of the last place. */
+static void advance_of_many(void)
+{
+	enum { FIRST_ONE = 1000, MANY = 1024 };
+	static int left[FIRST_ONE + MANY * 16];
+	int given = 0, threads = 0, wrong_ones = 0, not_taken = 0;
+	is("a child", advance_wants(5, false) && advance_give(5, false, 7) == 0);
+	is("and not two", !advance_wants(5, false) && advance_give(5, false, 8) == 7);
+	is("of another process", advance_wants(6, false) && advance_take(6, false) == 0);
+	is("the newer one is there", advance_take(5, false) == 8 && advance_wants(5, false));
+	while (threads < 16 && advance_wants(5, true))
+		wrong_ones += advance_give(5, true, (unsigned)++threads) != 0;
+	is("some threads", threads > 1 && threads < 16 && wrong_ones == 0);
+	is("one more takes the place of one", advance_give(5, true, 99) == (unsigned)threads);
+	is("one is taken", advance_take(5, true) == 1 && advance_wants(5, true));
+	while (advance_take(5, true))
+		threads--;
+	is("then all", threads == 1);
+	for (int round = 0; round < 2; round++) {
+		for (pid_t process = 1; process <= MANY; process++)
+			for (int kind = 0; kind < 2; kind++)
+				if (advance_wants(process, kind)) {
+					left[FIRST_ONE + given]++;
+					left[advance_give(process, kind, (unsigned)(FIRST_ONE + given++))] = 0;
+				}
+		for (unsigned one = advance_take_any(); one; one = advance_take_any())
+			left[one]--;
+	}
+	for (int i = FIRST_ONE; i < FIRST_ONE + given; i++)
+		not_taken += left[i] != 0;
+	is("all are taken back, twice", given == 4 * MANY && not_taken == 0);
 }
 
 /* ---------------------------------------------------------------- descriptors */
@@ -290,35 +324,6 @@ static void arrays(void)
 	free(all);
 }
 
-/* ---------------------------------------------------------------- a long trace */
-
-/* What a failed operation has kept goes, also behind the bytes that 32 bits count. */
-static void long_trace(void)
-{
-	char name[256];
-	const off_t before = 5LL << 30;
-	struct trace_file trace, answers;
-	struct stat st;
-	size_t depth;
-	snprintf(name, sizeof name, "%s/long-trace", getenv("TMPDIR") ? getenv("TMPDIR") : "/tmp");
-	if (!trace_file_open(&trace, name) || !trace_file_open(&answers, NULL) || ftruncate(trace.fd, before))
-		exit(2);
-	trace.size = before;
-	trace.was_told = true; /* that it is long */
-	is("an engine", engine_start(&trace, &answers, true));
-	engine_lock();
-	is("a group, alone", engine_begin() == 0 && engine_line("mkdir /a") == 0 && engine_finish(0) == 0);
-	depth = engine_depth();
-	const off_t kept = trace.size;
-	is("an operation that fails",
-		engine_begin() == 0 && engine_line("mkdir /b") == 0 && engine_finish(-EAGAIN) == -EAGAIN);
-	is("it is undone", engine_depth() == depth && engine_has_group("/b") == -ENOENT && engine_has_group("/a") == 0);
-	is("and its lines are gone", trace.size == kept && fstat(trace.fd, &st) == 0 && st.st_size == kept);
-	is("the next line is kept", engine_line("mkdir /b") == 0 && trace.size > kept);
-	engine_unlock();
-	unlink(name);
-}
-
 int main(void)
 {
 	texts();
@@ -326,9 +331,9 @@ int main(void)
 	news();
 	questions();
 	advance();
+	advance_of_many();
 	descriptors();
 	arrays();
-	long_trace();
 	printf("  %d steps, %d failed\n", steps, wrong);
 	return wrong != 0;
 }

@@ -2,7 +2,9 @@
 supervisor of a run, and a thread of the server that holds the engine's lock, look up no path and touch no memory of the program. Here
 the calls that would do so are looked for in the sources of their folders; blocking.py tries it. A folder also includes only headers of
 the folders that its line names: so code that may block is not called from a folder that may not. Then each of these rules is broken in
-a copy of the sources, which has to be refused. Each header is read once in a source, whatever includes it."""
+a copy of the sources, which has to be refused. Each header is read once in a source, whatever includes it, and no two files have the
+same name."""
+import collections
 import functools
 import os
 import re
@@ -145,6 +147,9 @@ def against(sources):
     places = list(FOLDERS)
     for number, folder in enumerate(places):
         yield from (f"{folder} includes {x}, which is above it" for x in FOLDERS[folder][0] if x not in places[:number])
+    for file, count in collections.Counter(map(os.path.basename, sources)).items():
+        if count > 1:
+            yield f"{count} files named {file}"
     if len(INCLUDES) > MOST_INCLUDES:
         yield f"{len(INCLUDES)} single headers"
     for name, (words, _) in ALLOWED.items():
@@ -176,6 +181,7 @@ def planted(sources):
         ("common/beneath.h", "\n#endif\n", "\n"),
     ):
         yield f"{new} in {name}", {**sources, name: sources[name].replace(old, new)}
+    yield "a second file of the same name", {**sources, "server/beneath.c": ""}
     yield "a new folder", {**sources, "new/new.c": ""}
     yield "a full folder", {**sources, **{f"common/new{n}.c": "" for n in range(MOST_COMMON)}}
 

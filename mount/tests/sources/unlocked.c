@@ -1,8 +1,10 @@
 /* Each function that needs the engine's lock ends a program that calls it without the lock. Built with CHECK_LOCK, over the
    sources of the mount without main.c. */
 #include "engine/engine.h"
+#include "engine/engine_queries.h"
 #include "engine/undo_steps.h"
 #include "processes/members.h"
+#include "processes/process_table.h"
 #include "processes/reservations.h"
 #include "processes/tasks.h"
 #include "processes/zombies.h"
@@ -14,10 +16,13 @@
 #include "server/operations.h"
 #include "server/owner.h"
 #include "server/watch.h"
+#include "values/values.h"
 #include <signal.h>
 #include <stdio.h>
 #include <sys/wait.h>
 #include <unistd.h>
+
+enum { PATIENCE = 60 }; /* seconds: a call that waits is ended */
 
 static struct stat st;
 static struct group_state remembered = { .path = "/" };
@@ -62,6 +67,18 @@ static void depth(void)
 static void history(void)
 {
 	engine_history(0, &text, &size);
+}
+static void handle(void)
+{
+	engine_handle();
+}
+static void finish_several(void)
+{
+	engine_finish(0);
+}
+static void forget(void)
+{
+	engine_forget();
 }
 static void find(void)
 {
@@ -171,6 +188,13 @@ static void forget_watch(void)
 {
 	watch_forget(&remembered);
 }
+/* Also once the mount has ended: whoever forgets a file then, or finds a change, waits for nobody. */
+static void stop_watches(void)
+{
+	watch_seen("/x", file_named("cgroup.events", false));
+	watch_stop();
+	watch_forget(group_state_find("/x"));
+}
 static void new_open(void)
 {
 	open_files_new(&remembered, NULL, A_DIRECTORY);
@@ -204,17 +228,79 @@ static void begin_several(void)
 {
 	engine_begin();
 }
+static void room_for_operation(void)
+{
+	undo_steps_make_room();
+}
+static void add_operation(void)
+{
+	undo_steps_add(0, 1);
+}
 static void newest_operation(void)
 {
 	undo_steps_newest(1);
+}
+static void count_operations(void)
+{
+	undo_steps_count(1);
+}
+static void cut_operations(void)
+{
+	undo_steps_cut(0);
+}
+static void reserve(void)
+{
+	static const struct reservation like;
+	unsigned number;
+	reservations_add(&like, "/", &number);
+}
+static void find_reserved(void)
+{
+	reservations_find(1);
+}
+static void drop_reserved(void)
+{
+	reservations_drop(1);
 }
 static void count_reserved(void)
 {
 	reservations_count();
 }
+static void count_reserved_below(void)
+{
+	reservations_below("/");
+}
+static void kill_reserved(void)
+{
+	reservations_kill("/");
+}
+static void in_table(void)
+{
+	process_at(1);
+}
+static void begin_process(void)
+{
+	tasks_begin_process(2);
+}
+static void add_thread(void)
+{
+	tasks_add(3, 2);
+}
+static void drop_thread(void)
+{
+	tasks_drop(3);
+}
+static void any_thread(void)
+{
+	tasks_any();
+}
 static void next_thread(void)
 {
 	tasks_next(1);
+}
+static void forget_values(void)
+{
+	values_forget(&remembered, 0);
 }
 
 static int ends_by(void (*call)(void), bool locked)
@@ -222,6 +308,7 @@ static int ends_by(void (*call)(void), bool locked)
 	int status = 0;
 	pid_t pid = fork();
 	if (pid == 0) {
+		alarm(PATIENCE);
 		if (!freopen("/dev/null", "w", stderr))
 			_exit(1);
 		if (locked)
@@ -238,8 +325,10 @@ int main(void)
 	void (*const calls[])(void) = { line, look_at, take_text, where, has_group, children, groups, depth, history, find,
 		make, lose, numbered, tidy, node_find, node_below, node_above, node_known, node_forget, begin, apply, set,
 		touch, forget_owner, forget_attributes, seen, above, below, process, listed, visit_each, prepare, zombies_room,
-		forget_watch, new_open, has, read_open, is_gone, wake, lose_open, control, begin_several, newest_operation,
-		count_reserved, next_thread };
+		forget_watch, stop_watches, new_open, has, read_open, is_gone, wake, lose_open, control, handle, begin_several,
+		finish_several, forget, room_for_operation, add_operation, newest_operation, count_operations, cut_operations,
+		reserve, find_reserved, drop_reserved, count_reserved, count_reserved_below, kill_reserved, in_table,
+		begin_process, add_thread, drop_thread, any_thread, next_thread, forget_values };
 	static struct trace_file none = { .fd = -1 };
 	size_t wrong = 0, count = sizeof calls / sizeof *calls;
 	if (!engine_start(&none, &none, true))

@@ -1,4 +1,4 @@
-/* refusing CALL ERRNO PROGRAM WORDS..: executes a program under a filter that refuses one system call with this errno, as a sandbox does.
+/* sandbox CALL ERRNO PROGRAM WORDS..: executes a program under a filter that refuses one system call with this errno, as a sandbox does.
    CALL is its name; behind it, after a colon, may stand the second argument that alone is refused. */
 #include "../filters.h"
 #include <limits.h>

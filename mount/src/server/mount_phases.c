@@ -1,4 +1,4 @@
-#include "server/mount_contexts.h"
+#include "server/mount_phases.h"
 #include "channels/mount_steps.h"
 #include <errno.h>
 #include <string.h>
@@ -43,7 +43,7 @@ static int begin_use(struct mount_context *c)
 }
 
 /* EINVAL for all that is no message: a program may write to the descriptor. */
-int mount_contexts_step(struct mount_context *c, const char *data, size_t size)
+int mount_phases_step(struct mount_context *c, const char *data, size_t size)
 {
 	struct mount_step_message said;
 	/* A write that the helper did not make: a program can write to the descriptor too. */

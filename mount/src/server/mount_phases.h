@@ -1,13 +1,12 @@
 /* Mounts that are made step by step: what each allows next, as the kernel's. Its other differences from a file: it can't be read or
    sought. */
-#ifndef MOUNT_CONTEXTS_H
-#define MOUNT_CONTEXTS_H
+#ifndef MOUNT_PHASES_H
+#define MOUNT_PHASES_H
 
 #include <stdbool.h>
 #include <stddef.h>
 
-/* Zero at first. */
-/* Of one open file. mount_contexts_step alone changes it, with the engine's lock. */
+/* Of one open file, zero at first. mount_phases_step alone changes it, with the engine's lock. */
 struct mount_context {
 	enum { PARAMETERS, CREATED, MOUNTED, FAILED } phase;
 	bool has_source;
@@ -15,6 +14,6 @@ struct mount_context {
 };
 
 /* What was written: 0 or -errno. */
-int mount_contexts_step(struct mount_context *c, const char *data, size_t size);
+int mount_phases_step(struct mount_context *c, const char *data, size_t size);
 
 #endif

@@ -1,4 +1,4 @@
-"""Machines and callers that do not allow what is needed: each call of the kernel refused by a filter, as a sandbox does (refusing.c), and
+"""Machines and callers that do not allow what is needed: each call of the kernel refused by a filter, as a sandbox does (sandbox.c), and
 small limits. Then `run` and `mount` say one sentence and end with status 2, or work as usual."""
 import errno
 import os
@@ -12,7 +12,7 @@ import tempfile
 sys.path.insert(0, os.path.dirname(os.path.dirname(os.path.realpath(__file__))))
 from support import BUILT, PATIENCE, PROGRAM, finish, in_parallel, same, status_within, step, until
 
-REFUSING = os.path.join(BUILT, "refusing")
+SANDBOX = os.path.join(BUILT, "sandbox")
 ERRORS = (errno.EPERM, errno.EACCES, errno.ENOSYS)
 SHOWS = ("run", "cat", "/proc/self/cgroup")
 
@@ -49,7 +49,7 @@ def is_one_sentence(said):
 
 def refused_to_run(one):
     call, number = one
-    got = ran(REFUSING, call, str(number), PROGRAM, *SHOWS)
+    got = ran(SANDBOX, call, str(number), PROGRAM, *SHOWS)
     what = "the call %s" % call if call in NEEDED or call == "clone3" else OTHERS.get(call)
     why = "" if call == "seccomp" else ": " + os.strerror(number)
     if call in UNNEEDED or (call == "clone3" and number == errno.ENOSYS):
@@ -61,7 +61,7 @@ def refused_to_run(one):
 
 def refused_stream(number):
     """The socket by which the program begins is another kind than those that are made before."""
-    got = ran(REFUSING, "socketpair:%d" % (socket.SOCK_STREAM | socket.SOCK_CLOEXEC), str(number), PROGRAM, *SHOWS)
+    got = ran(SANDBOX, "socketpair:%d" % (socket.SOCK_STREAM | socket.SOCK_CLOEXEC), str(number), PROGRAM, *SHOWS)
     wanted = (2, "", "makhloeum: this machine does not allow a socket: %s\n" % os.strerror(number))
     same("run without a pair of streams, %s" % errno.errorcode[number], got, wanted)
 
@@ -85,11 +85,11 @@ def mounts(name, before, is_refused=None, options=()):
 def refused_to_mount(one):
     call, number = one
     refused = call in NEEDED_BY_MOUNT and (call, number) != ("clone3", errno.ENOSYS)
-    mounts("mount without %s, %s" % (call, errno.errorcode[number]), (REFUSING, call, str(number)), refused)
+    mounts("mount without %s, %s" % (call, errno.errorcode[number]), (SANDBOX, call, str(number)), refused)
 
 
 def refused_in_the_foreground(call):
-    mounts("mount --foreground without %s" % call, (REFUSING, call, str(errno.EPERM)), True, ("--foreground",))
+    mounts("mount --foreground without %s" % call, (SANDBOX, call, str(errno.EPERM)), True, ("--foreground",))
 
 
 def limited(one):
@@ -136,6 +136,8 @@ in_parallel(refused_to_run, [(call, number) for call in every for number in ERRO
 without = [call for call in every if call not in ("umount2", "poll", "wait4", "getpid")]
 in_parallel(refused_to_mount, [(call, number) for call in without for number in ERRORS], lanes=4)
 in_parallel(refused_in_the_foreground, [call for call in NEEDED_BY_MOUNT if call != "pipe2"], lanes=4)
+for each in ERRORS:
+    mounts("mount --adopt without epoll_create1", (SANDBOX, "epoll_create1", str(each)), True, ("--adopt",))
 in_parallel(limited, [("nproc", n) for n in range(1, 41)] + [("nofile", n) for n in range(4, 41)], lanes=4)
 in_parallel(mounts_limited, [("nproc", n) for n in range(3, 15)] + [("nofile", n) for n in range(4, 21)], lanes=4)
 blocked()

@@ -1,3 +1,0 @@
-#include "processes/process_table.h"
-
-struct process process_table[PIDS];
