@@ -292,6 +292,8 @@ def test_a_rate_is_by_the_second(monkeypatch):
         ("cat /a pids.max", "cat /b pids.max", True),
         ("cat /a pids.max", "cat /a pids.peak", False),
         ("cat /a pids.max", "reread /a pids.max", False),
+        ("reread /a pids.max", "reread /b pids.max", True),
+        ("reread /a pids.max", "reread /a pids.peak", False),
         ("write /a pids.max 5", "write /b pids.max 6", True),
         ("write /a pids.max 5", "write /a cgroup.kill 5", False),
         ("fork 1 2", "fork 3 4", True),

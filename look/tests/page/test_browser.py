@@ -5,9 +5,8 @@ import time
 
 import pytest
 from demo import demo
-from reading import moment, row_of
 from support import HOSTILE, long_trace, wide_trace
-from webdriver import is_there
+from webdriver import is_there, moment, row_of
 
 pytestmark = pytest.mark.skipif(not is_there(), reason="chromium and chromedriver are missing")
 

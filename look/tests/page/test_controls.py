@@ -2,8 +2,7 @@
 
 import pytest
 from demo import demo
-from reading import row_of
-from webdriver import is_there
+from webdriver import is_there, row_of
 
 pytestmark = pytest.mark.skipif(not is_there(), reason="chromium and chromedriver are missing")
 FOCUSED = "const it = document.activeElement; return it.id || it.textContent"

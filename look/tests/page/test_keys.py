@@ -2,9 +2,8 @@
 
 import pytest
 from demo import demo
-from reading import moment
 from support import pods_trace
-from webdriver import is_there
+from webdriver import is_there, moment
 
 pytestmark = pytest.mark.skipif(not is_there(), reason="chromium and chromedriver are missing")
 FOCUS = "document.querySelector(arguments[0]).focus()"

@@ -4,9 +4,8 @@ import re
 
 import pytest
 from demo import demo
-from reading import row_of
 from support import deep_trace, pods_trace
-from webdriver import Browser, is_there
+from webdriver import Browser, is_there, row_of
 
 pytestmark = pytest.mark.skipif(not is_there(), reason="chromium and chromedriver are missing")
 WIDTHS = (400, 1000, 1400, 1600)

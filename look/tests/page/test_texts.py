@@ -1,8 +1,7 @@
 """What the page says of a small run, text by text, in a real browser."""
 
 import pytest
-from reading import row_of
-from webdriver import is_there
+from webdriver import is_there, row_of
 
 pytestmark = pytest.mark.skipif(not is_there(), reason="chromium and chromedriver are missing")
 

@@ -1,4 +1,4 @@
-"""A browser by the WebDriver protocol: the few commands that the tests and the pictures need."""
+"""A browser by the WebDriver protocol: the few commands that the tests and the pictures need, and what the page of a run shows in it."""
 
 from __future__ import annotations
 
@@ -184,3 +184,17 @@ class Browser:
             if self.driver.stdout:
                 self.driver.stdout.close()
             shutil.rmtree(self.folder, ignore_errors=True)
+
+
+def moment(browser: Browser) -> int:
+    """The moment that a page shows."""
+    found = re.match(r"after ([\d,]+) of", browser.text("#moment"))
+    assert found
+    return int(found[1].replace(",", ""))
+
+
+def row_of(browser: Browser, name: str) -> Any:
+    """The cells of a group's row, and its classes."""
+    script = """const row = [...document.querySelectorAll("#tree .row")].find((one) => one.firstChild.title === arguments[0]);
+        return row && [row.className, ...[...row.children].map((one) => one.textContent.trim())]"""
+    return browser.run(script, name)
