@@ -391,6 +391,7 @@ class Quick(Gates):
 class AllUnproved(Gates):
     FIRST = (
         "try --tests",
+        ".ci/unproved --crates",
         ".ci/documents",
         ".ci/laws",
         "completion/generate --check",
@@ -398,9 +399,8 @@ class AllUnproved(Gates):
         ".ci/mutants --check",
         ".ci/style",
     )
-    CRATES = ".ci/unproved --crates"
     BUILT = (
-        *(".ci/promised", "bindings/test", "look/test", "look/test-check", "evidence/compare"),
+        *(".ci/promised", "bindings/test", "look/test", "look/test-check", "evidence/compare", "mount/test"),
         *("evidence/bench/bench --quick", ".ci/shell/run", ".ci/refused/run", "evidence/sizes"),
     )
 
@@ -408,10 +408,9 @@ class AllUnproved(Gates):
         status, lines = self.played(".ci/all-unproved")
         calls = self.calls()
         self.assertEqual(status, 0, lines)
-        first = len(self.FIRST)
-        self.assertEqual(sorted(calls[:first]), sorted(self.FIRST))
-        self.assertEqual(sorted(calls[first:-1]), sorted([self.CRATES, *self.BUILT]))
-        self.assertEqual(calls[-1], "mount/test", "it runs alone")
+        self.assertEqual(sorted(calls), sorted([*self.FIRST, *self.BUILT]))
+        for call in self.BUILT:
+            self.assertGreater(calls.index(call), calls.index("try --tests"), "it needs what ./try makes")
         self.assertEqual(lines[-1], f"{len(calls)} passed, 0 failed")
         self.assertIn("  the proofs, and the edits that the prover refuses: skipped, .ci/run has them", lines)
         more = {
@@ -425,7 +424,7 @@ class AllUnproved(Gates):
     def test_it_ends_by_a_signal(self):
         for number, status in ENDS:
             self.assertEqual(self.stopped(".ci/all-unproved", "try", number), status)
-            self.assertNotIn(self.CRATES, self.calls())
+            self.assertNotIn("bindings/test", self.calls())
 
     def test_parts_that_may_hang_have_an_end(self):
         wanted = {"look/test-check": ["-k", "60", "1200"], "mount/test": ["-k", "60", "1800"]}
@@ -435,7 +434,7 @@ class AllUnproved(Gates):
         self.comes_to("try", 1)
         status, lines = self.played(".ci/all-unproved")
         self.assertEqual((status, lines[-2]), (1, "what failed: all that is tested, built without proofs"))
-        self.assertEqual(sorted(self.calls()), sorted([*self.FIRST, self.CRATES]))
+        self.assertEqual(sorted(self.calls()), sorted(self.FIRST))
         self.assertIn("  the programs, the library and the mount: skipped, ./try failed", lines)
 
     def test_packages_are_installed_only_if_asked(self):

@@ -70,6 +70,20 @@ class Parts(unittest.TestCase):
         self.ends(["passes", "passes", "says_nothing"], 0, "", "6 passed, 0 failed")
         self.ends(["passes_after_others"], 0, "", "2 passed, 0 failed")
 
+    def test_one_part_can_be_waited_for_while_others_run(self):
+        """The slow part ends only once the file is there, which is made after the wait for the other one."""
+        _, lines, _ = self.played(
+            """slow() { for _ in {1..100}; do [ ! -e "$work/go" ] || break; sleep 0.05; done; passes; }
+part slow slow
+part passes passes
+end_parts passes
+echo waited
+touch "$work/go"
+end_parts"""
+        )
+        self.assertEqual([line for line in lines if line[:2] in ("==", "wa")], ["== passes", "waited", "== slow"])
+        self.assertEqual(lines[-1], "6 passed, 0 failed")
+
     def test_what_a_part_says_follows_its_name(self):
         lines = self.ends(["says_errors"], 1, "says_errors", "0 passed, 1 failed")
         self.assertEqual(lines[:2], ["== says_errors", "an error"])

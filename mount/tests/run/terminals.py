@@ -18,6 +18,8 @@ from support import PATIENCE, PROGRAM, finish, in_parallel, same, status_within,
 
 PROMPT = "outer> "
 RUN = PROGRAM + " run "
+# not `wait -n`, which waits for the next change: the shell may have seen the stop before
+UNTIL_STOPPED = "until jobs | grep '^.1.* Stopped'; do sleep 0.1; done\n"
 
 
 class Terminal:
@@ -173,7 +175,7 @@ def default():
     t.stopped(r"Stopped\(SIGTSTP\) ", "^Z")
     t.asks("bg", "sleep 600' &\r\n", "bg continues it")
     t.asks("jobs", "Running ", "it runs in the background")
-    t.type("kill -STOP %1; wait -n; jobs\n")
+    t.type("kill -STOP %1; " + UNTIL_STOPPED)
     t.stopped(r"Stopped\(SIGSTOP\) ", "the shell stops it")
     t.type("fg\n")
     step("sleep: it has the terminal", until(lambda: t.foreground() == group))
@@ -299,7 +301,8 @@ def background():
     t = Terminal("in the background")
     t.type(RUN + "cat &\n")
     t.waits_for(re.escape(PROMPT), "a prompt")
-    t.type("wait -n\n")
+    t.type(UNTIL_STOPPED)
+    t.waits_for("done\r\n", "the shell waits")
     t.waits_for(re.escape(PROMPT), "the shell has waited")
     t.asks("jobs", "Stopped ", "it is stopped since it reads")
     t.type("fg\n")
