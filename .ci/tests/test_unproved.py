@@ -64,7 +64,7 @@ class Unproved(MadeUp):
     def test_a_crate_that_changed_is_tried_with_those_above(self):
         self.write("crates/low/src/lib.rt", f"{TEST}// more\n")
         calls, lines = self.tried()
-        self.assertEqual(calls, [f"{name} try --test --seconds 900" for name in ("high", "low")])
+        self.assertEqual(calls, [f"{name} try --test --seconds 1800" for name in ("high", "low")])
         self.assertEqual(lines[-1], "2 passed, 0 failed")
 
     def test_what_is_committed_counts_since_the_commit(self):
@@ -72,7 +72,7 @@ class Unproved(MadeUp):
         self.write("crates/high/src/more.rt", "")
         self.git("add", "-A")
         self.git("commit", "--quiet", "--message", "b")
-        self.assertEqual(self.tried()[0], ["high try --test --seconds 900"], "since the main branch")
+        self.assertEqual(self.tried()[0], ["high try --test --seconds 1800"], "since the main branch")
         os.remove(f"{self.top}/calls")
         self.assertEqual(self.tried("HEAD"), ([], [self.tried("HEAD")[1][0], "0 passed, 0 failed"]))
 
@@ -81,19 +81,19 @@ class Unproved(MadeUp):
             self.write(f"crates/low/{name}", "")
         self.assertEqual(self.tried()[0], [])
         self.write("crates/high/src/new.rt", "")
-        self.assertEqual(self.tried()[0], ["high try --test --seconds 900"], "a file that git doesn't have yet")
+        self.assertEqual(self.tried()[0], ["high try --test --seconds 1800"], "a file that git doesn't have yet")
 
     def test_a_program_has_its_stored_run(self):
         self.write("crates/beside/src/lib.rt", "// no test any more\n")
         calls, lines = self.tried()
-        self.assertEqual((calls, lines[-1]), (["program try --seconds 900"], "1 passed, 0 failed"))
+        self.assertEqual((calls, lines[-1]), (["program try --seconds 1800"], "1 passed, 0 failed"))
         self.assertEqual(self.read("crates/program/given"), "in\n")
         self.write("crates/program/args", "--one\ntwo words\n")
         self.write("crates/program/data/b", "")
         self.write("crates/program/data/a", "")
         os.remove(f"{self.top}/calls")
         self.assertEqual(
-            self.tried()[0], ["program try --seconds 900 --data a=data/a --data b=data/b -- --one two words"]
+            self.tried()[0], ["program try --seconds 1800 --data a=data/a --data b=data/b -- --one two words"]
         )
         self.write("crates/program/says", "another\n")
         lines = self.tried(status=1)[1]
@@ -136,7 +136,7 @@ class Unproved(MadeUp):
         calls, lines = self.tried("--crates")
         self.assertEqual(
             calls,
-            [f"{name} try --test --seconds 900" for name in ("beside", "high", "low")] + ["program try --seconds 900"],
+            [f"{name} try --test --seconds 1800" for name in ("beside", "high", "low")] + ["program try --seconds 1800"],
         )
         self.assertEqual(lines[-1], "4 passed, 0 failed")
 

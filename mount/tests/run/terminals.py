@@ -100,6 +100,11 @@ class Terminal:
     def foreground(self):
         return os.tcgetpgrp(self.fd)
 
+    def has_stopped(self, group):
+        """Whether a process of the group is stopped."""
+        states = subprocess.run(["ps", "-eo", "pgid=,stat="], stdout=subprocess.PIPE, text=True, check=True).stdout
+        return any(int(of) == group and state[0] == "T" for of, state in map(str.split, states.splitlines()))
+
 
 HANDLES = """import os, signal, sys, termios
 def stops(*_):
@@ -195,7 +200,8 @@ def deaf():
         t.type("\x1a")
         t.stopped("Stopped ", "^Z, the %s time" % times)
         t.type("fg\n")
-        step("it has the terminal", until(lambda: t.foreground() == group))
+        # the shell continues it after it gave it the terminal, and a stop that comes between them is lost
+        step("it has the terminal", until(lambda: t.foreground() == group and not t.has_stopped(group)))
     t.type("\x03")
     t.waits_for(re.escape(PROMPT), "^C ends it")
     t.ends(130)
