@@ -465,6 +465,7 @@ def kept():
     for what, words, why in (
         ("answers that cannot be made", ("--trace", new, "--answers", "/nowhere/x"), nowhere),
         ("a trace that cannot be made", ("--trace", "/nowhere/x", "--answers", new), nowhere),
+        ("an empty name", ("--trace", "", "--answers", new), " cannot be written: No such file or directory"),
         ("a folder", ("--trace", new, "--answers", HOME), HOME + " cannot be written: Is a directory"),
         ("a FIFO without a reader", ("--trace", fifo), fifo + " cannot be written: No such device or address"),
         ("a hard link to the other", ("--trace", trace, "--answers", hard), twice),

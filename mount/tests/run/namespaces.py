@@ -1054,6 +1054,9 @@ def configured(at=AT):
     same(
         "of other descriptors", [configure(n, CREATE) for n in (0, 999, -1, text)], ["EINVAL", "EBADF", *["EINVAL"] * 2]
     )
+    with tempfile.TemporaryDirectory() as folder, open(folder + "/.makhloeum.f", "w+b", buffering=0) as own:
+        got = configure(own.fileno(), SET_FLAG, b"ro"), called(FSMOUNT, own.fileno(), 0, 0), own.seek(0, os.SEEK_END)
+        same("of an own file with the name of one of the mount's", got, ("EINVAL", "EINVAL", 0))
     same("nor mounts", [called(FSMOUNT, n, 0, 0) for n in (0, 999)], ["EINVAL", "EBADF"])
     got = [configure(fd, CREATE), configure(fd, CREATE), configure(fd, SET_FLAG, b"rw"), configure(fd, RECONFIGURE)]
     same("made once", got, [0, "EBUSY", "EBUSY", "EBUSY"])

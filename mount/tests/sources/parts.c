@@ -1,12 +1,13 @@
 /* Parts of the mount that can be called alone: the texts of /proc (proc_status.c), reservations (reservations.c), what the supervisor
    tells (supervisor_events.c) and asks the server (link.c), what is allowed in advance (advance.c), descriptors that are passed
-   (descriptor_passing.c), and arrays (growing_array.c). */
+   (descriptor_passing.c), arrays (growing_array.c), and which commands are one operation (undo_steps.c). */
 #include "channels/advance.h"
 #include "channels/descriptor_passing.h"
 #include "channels/questions.h"
 #include "channels/supervisor_events.h"
 #include "common/growing_array.h"
 #include "common/proc_status.h"
+#include "engine/undo_steps.h"
 #include "processes/reservations.h"
 #include "supervisor/link.h"
 #include <errno.h>
@@ -324,6 +325,28 @@ static void arrays(void)
 	free(all);
 }
 
+/* ---------------------------------------------------------------- operations */
+
+/* Many operations of two commands, with one of one command before and after each. */
+static void operations(void)
+{
+	enum { MANY = 1000, COMMANDS = 3 };
+	bool counts = true, begins = true;
+	for (size_t i = 0; i < MANY && counts && begins; i++) {
+		size_t from = COMMANDS * i + 1, to = from + 2;
+		counts = undo_steps_make_room() == 0;
+		undo_steps_add(from, to);
+		begins = undo_steps_newest(to) == from && undo_steps_newest(to + 1) == to;
+		counts &= undo_steps_count(to) == 2 * i + 2;
+	}
+	is("two commands count as one operation", counts);
+	is("which begins with the first of them", begins);
+	undo_steps_cut(COMMANDS * MANY / 2);
+	is("half of them", undo_steps_count(COMMANDS * MANY / 2) == MANY);
+	undo_steps_cut(0);
+	is("none", undo_steps_count(0) == 0);
+}
+
 int main(void)
 {
 	texts();
@@ -334,6 +357,7 @@ int main(void)
 	advance_of_many();
 	descriptors();
 	arrays();
+	operations();
 	printf("  %d steps, %d failed\n", steps, wrong);
 	return wrong != 0;
 }
