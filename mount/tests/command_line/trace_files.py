@@ -333,6 +333,7 @@ def small_device():
         with open(m.answers, "r+b") as it:
             it.truncate(size)
 
+    os.mkdir(m.path("before"))
     errors = []
     stop()
     for i in range(2000):  # one page of answers at most
@@ -344,9 +345,10 @@ def small_device():
     same(
         "as many groups as answers",
         (sum(n.startswith("g") for n in os.listdir(m.at)), sum(1 for _ in open(m.answers))),
-        (made, made),
+        (made, made + 1),
     )
     same("a kill", error_of(write, m.control("fork"), b"1 2\n"), "ENOSPC")
+    same("an undo", error_of(write, m.control("undo"), b"1\n"), "ENOSPC")
     os.unlink(ballast)
     same("it recovers", error_of(os.mkdir, m.path("after")), "ok")
     m.end()

@@ -100,10 +100,10 @@ def limited(one):
     status, text, said = ran(*namespace, *limit, PROGRAM, *SHOWS)
     works = (status, text, said) == (0, "0::/\n", "")
     refuses = status == 2 and text == "" and is_one_sentence(said)
-    is_enough = which == "nofile" and value >= 32
+    is_right = works or (refuses and not (which == "nofile" and value >= 32))
     if which == "nofile" and 16 <= value < 32:  # with fewer something else is missing first
-        refuses = said == "makhloeum: a run needs 32 descriptors, and their hard limit is %d\n" % value
-    step("run with %s=%d" % one, works or (refuses and not is_enough), (status, text, said))
+        is_right = refuses and said == "makhloeum: a run needs 32 descriptors, and their hard limit is %d\n" % value
+    step("run with %s=%d" % one, is_right, (status, text, said))
 
 
 def mounts_limited(one):

@@ -118,6 +118,15 @@ static void reservations(void)
 	for (int i = 0; i < 4; i++)
 		reservations_drop(numbers[i]);
 	is("none in the end", reservations_count() == 0 && reservations_below("/") == 0);
+	enum { MANY = 70000 }; /* more than 16 bits count */
+	unsigned kept = 0, next = 0;
+	bool is_new = reservations_add(&like, "/", &kept) == 0;
+	for (int i = 0; i < MANY && is_new; i++) {
+		is_new = reservations_add(&like, "/", &next) == 0 && next != kept;
+		reservations_drop(next);
+	}
+	is("the number of one that is kept is not used again", is_new);
+	reservations_drop(kept);
 }
 
 /* ---------------------------------------------------------------- news */
