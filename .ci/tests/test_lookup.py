@@ -1,6 +1,7 @@
 """Tests of what ./where and .ci/documents look up: types of receivers, definitions, parts, words of newcomers, the map of folders."""
 import os
 import sys
+import tokenize
 import unittest
 
 TOP = os.path.dirname(os.path.dirname(os.path.dirname(os.path.realpath(__file__))))
@@ -558,6 +559,18 @@ class Words(unittest.TestCase):
         some = words.WORDS[0][1][0]
         fault = f".ci/lookup/words.py: {some} of {words.WORDS[0][0][0]} is nowhere"
         self.assertEqual([*words.faults_of_words(lambda name: name != some)], [fault])
+
+    def test_no_two_words_of_the_table_are_one_text(self):
+        """Python joins texts that have no comma between them."""
+        with tokenize.open(words.__file__) as it:
+            tokens = [token for token in tokenize.generate_tokens(it.readline) if token.type != tokenize.NL]
+        pairs = [
+            (one.string, two.string)
+            for one, two in zip(tokens, tokens[1:])
+            if {one.type, two.type} == {tokenize.STRING}
+        ]
+        self.assertEqual(pairs, [])
+        self.assertIn('"make install"', [token.string for token in tokens])
 
 
 class Folders(unittest.TestCase):

@@ -344,6 +344,13 @@ class OfAMadeUpRepository(unittest.TestCase):
             ],
         )
 
+    def test_functions_of_one_name_have_the_clauses_of_each(self):
+        other = "pub fn add(of: Pair)\n    requires { IsFew }\n    ensures { Adds }\n{\n}\n"
+        search = where.Search("add", {**self.TEXTS, "crates/low/src/pair.rt": other})
+        self.assertEqual({path for path, _, _ in search.defined}, {"crates/low/src/pair.rt", "crates/low/src/sum.rt"})
+        clauses = ["cites Adds of low/specs/Sum.antt", "ensures { Adds }", "requires { IsFew }"]
+        self.assertEqual(sorted(search.contract), clauses, "each clause once")
+
     def test_a_method_of_python_or_go(self):
         self.assertEqual(
             self.screen("Tree.peak"),
@@ -575,6 +582,8 @@ class OfWords(unittest.TestCase):
         for name in ("deb", "rpm", "install", "FEDORA"):
             self.assertTrue(words.called_here(name), name)
         self.assertEqual(words.called_here("fedoras"), [])
+        for name in ("install", "make install", "prefix"):
+            self.assertIn("./install", words.called_here(name), name)
 
     def test_a_message_of_an_errno(self):
         self.assertEqual(words.called_here("Transport endpoint is not connected"), ["ENOTCONN"])

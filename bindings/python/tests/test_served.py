@@ -39,7 +39,8 @@ CALLS = ["stat", "lstat", "listdir", "scandir", "mkdir", "rmdir", "readlink", "o
 
 @pytest.mark.parametrize("call", CALLS)
 @pytest.mark.parametrize(
-    "name", ["a/pids.max", "b/pids.max", "b/c/pids.max", "a/pids.max/x", "a/pids.max/pids.max", "b/c"]
+    "name",
+    ["a/pids.max", "b/pids.max", "b/c/pids.max", "a/pids.max/x", "a/pids.max/pids.max", "b/c", "a b/cgroup.kill"],
 )
 def test_what_is_missing_comes_before_what_is_wrong(h, tmp_path, call, name):
     """As with a real file: one that isn't there is missing, whatever its name is."""

@@ -273,6 +273,14 @@ def test_what_cannot_be_removed_is_named(groups, served, monkeypatch):
     assert directory.remove_groups(TOP, 0) == directory.remove_groups(HOME, 0) == [] and os.path.isdir(f"{AT}/own")
 
 
+def test_a_group_whose_name_begins_with_a_point_is_listed_and_removed(groups, served):
+    """No kernel refuses the name, and no group is hidden."""
+    for name in (".a", "b", "..c"):
+        served.mkdir(f"/own/top3/{name}")
+    assert groups.listed("/").split("\n")[0] == "..c .a b"
+    assert directory.remove_groups(TOP, 0) == [] and served.groups() == ["/", "/own", "/own/home3"]
+
+
 class Entry:
     """An entry of a file system that lists no types: asked for one, it has to look, which may take long."""
 

@@ -286,6 +286,19 @@ def test_an_error_of_a_worker_is_its_errno(own):
     at.leave()
 
 
+def test_an_error_without_a_name_is_told_as_a_number(monkeypatch):
+    """524 is an errno of the kernel alone, which a driver may let out."""
+
+    def refused(self):
+        raise OSError(524, "")
+
+    monkeypatch.setattr(worker._Worker, "refused", refused, raising=False)
+    at = Worker(PATIENCE)
+    assert at.ask("refused") == ("errno 524", "")
+    assert at.ask("end") == ("ok", []), "it goes on"
+    at.leave()
+
+
 def test_a_worker_removes_what_it_has_when_the_check_ends(own):
     at = Worker(PATIENCE)
     assert at.ask("reopen", str(own), 5) == ("ok", None)
