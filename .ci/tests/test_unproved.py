@@ -136,7 +136,8 @@ class Unproved(MadeUp):
         calls, lines = self.tried("--crates")
         self.assertEqual(
             calls,
-            [f"{name} try --test --seconds 1800" for name in ("beside", "high", "low")] + ["program try --seconds 1800"],
+            [f"{name} try --test --seconds 1800" for name in ("beside", "high", "low")]
+            + ["program try --seconds 1800"],
         )
         self.assertEqual(lines[-1], "4 passed, 0 failed")
 
