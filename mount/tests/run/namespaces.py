@@ -510,6 +510,24 @@ def beneath():
     libc.umount2(home.encode(), DETACH)
 
 
+def crossed():
+    """A mount of a directory of /proc over another one is not crossed by an openat2 that crosses none."""
+    proc, other = os.open("/proc", os.O_RDONLY), subprocess.Popen(["sleep", "600"])
+    how = (ctypes.c_uint64 * 3)(0, 0, 1)  # RESOLVE_NO_XDEV
+    at = b"/proc/%d" % other.pid
+    file = at[len("/proc/") :] + b"/cgroup"
+    opens = (
+        lambda: error_of(os.close, fd) if (fd := libc.syscall(437, proc, file, how, 24)) >= 0 else ctypes.get_errno()
+    )
+    same("without it", opens(), "ok")
+    same("it is made", libc.mount(b"/proc/self/task/%d" % os.getpid(), at, None, BIND, None), 0)
+    same("with it", opens(), errno.EXDEV)
+    libc.umount2(at, DETACH)
+    same("without it again", opens(), "ok")
+    other.kill()
+    other.wait()
+
+
 THREAD = """
 import ctypes, sys, threading
 libc, home = ctypes.CDLL(None), sys.argv[1]
@@ -996,6 +1014,7 @@ def configured(at=AT):
         ("unknown flags", "EINVAL", (b"cgroup2", 2)),
         ("no name", "EFAULT", (None, 0)),
         ("an empty name", "ENODEV", (b"", 0)),
+        ("a name that no file system has", "ENODEV", (b"nosuch" * 20, 0)),
     ):
         same("fsopen, %s" % name, called(FSOPEN, *words), wanted)
     for flags in (0, 1, 1 << 32):  # the kernel takes 32 bits
@@ -1260,6 +1279,7 @@ INSIDE = (
     rewritten,
     covered,
     beneath,
+    crossed,
     threads,
     confined,
     closed,
