@@ -668,6 +668,9 @@ def closed():
         same("another file, dumpable %d" % dumpable, read("/proc/self/fd/%d" % other), read("/etc/hostname"))
         got = error_of(os.open, "/proc/self/fd/%d" % held, os.O_RDONLY | os.O_NOFOLLOW)
         same("a link that is not followed, dumpable %d" % dumpable, got, "ELOOP")
+        how, name = (ctypes.c_uint64 * 3)(0, 0, 2), b"/proc/self/fd/%d/cgroup" % folder  # RESOLVE_NO_MAGICLINKS
+        got = libc.syscall(437, -100, name, how, 24), errno.errorcode[ctypes.get_errno()]
+        same("openat2 that follows no link of /proc, dumpable %d" % dumpable, got, (-1, "ELOOP"))
         got = os.read(os.open("cgroup", os.O_RDONLY, dir_fd=folder), 99)
         same("from a descriptor of /proc/self, dumpable %d" % dumpable, got, b"0::/a\n")
         kinds = [magic_of(libc.statfs, AT.encode()), magic_of(libc.fstatfs, group)]
