@@ -257,25 +257,28 @@ def test_a_watch_of_a_file(tmp_path):
     assert open_files() == before
 
 
-@pytest.mark.parametrize("fails", ["inotify_init1", "inotify_add_watch"])
-def test_a_watch_that_inotify_refuses(tmp_path, monkeypatch, fails):
+@pytest.mark.parametrize("fails, number", [("inotify_init1", errno.EMFILE), ("inotify_add_watch", errno.ENOSPC)])
+def test_a_watch_that_inotify_refuses(tmp_path, monkeypatch, fails, number):
     """Its errno is said, and no file stays open."""
     (tmp_path / "cgroup.events").write_text("populated 0\n")
+    numbers = []
 
     class Library:
         def inotify_init1(self, flags):
+            numbers.append(errno.EMFILE)
             return -1 if fails == "inotify_init1" else os.open("/dev/null", os.O_RDONLY)
 
         def inotify_add_watch(self, descriptor, path, mask):
             assert path == os.fsencode(tmp_path / "cgroup.events") and mask == 2
+            numbers.append(errno.ENOSPC if descriptor >= 0 else errno.EBADF)
             return -1
 
     monkeypatch.setattr(watching.ctypes, "CDLL", lambda name, use_errno: Library())
-    monkeypatch.setattr(watching.ctypes, "get_errno", lambda: errno.EMFILE)
+    monkeypatch.setattr(watching.ctypes, "get_errno", lambda: numbers[-1])
     before = open_files()
     with pytest.raises(OSError) as failed:
         watching.Watch(str(tmp_path / "cgroup.events"))
-    assert (failed.value.errno, failed.value.strerror) == (errno.EMFILE, os.strerror(errno.EMFILE))
+    assert (failed.value.errno, failed.value.strerror) == (number, os.strerror(number))
     assert open_files() == before
 
 
