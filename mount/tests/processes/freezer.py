@@ -213,6 +213,23 @@ def moves():
     os.rmdir(mark)
 
 
+def left():
+    """A process that has left a frozen group runs on when another group is frozen."""
+    for group in ("/cold", "/warm", "/other"):
+        os.mkdir(AT + group)
+    one, two = Counter("/cold"), Counter("/other")
+    freeze("/cold", 1)
+    becomes("it stops", "/cold", FROZEN)
+    write(AT + "/warm/cgroup.procs", b"%d\n" % one.process.pid)
+    step("moved out it runs again", one.counts())
+    freeze("/other", 1)
+    becomes("another group stops", "/other", FROZEN)
+    step("it still runs", one.counts())
+    step("the other one rests", two.rests())
+    one.end()
+    two.end()
+
+
 def reordered():
     """Two processes are frozen in one order, and then in the other."""
     for group in ("/a", "/a/first", "/a/last"):
@@ -616,6 +633,7 @@ def undone():
 INSIDE = (
     stops,
     moves,
+    left,
     reordered,
     kinds,
     vforked,
