@@ -303,6 +303,13 @@ class Receivers(unittest.TestCase):
         rattle = receivers.Rattle({**self.TEXTS, "crates/low/src/more.rt": text})
         self.assertEqual(rattle.calls("crates/low/src/more.rt", "step", "Walk"), {3: True, 9: False})
 
+    def test_the_parameters_of_a_method_are_those_of_the_nearest_of_its_name(self):
+        text = "impl Oak {\n    fn new(of: Node<A>) {\n        of.copy(alloc);\n    }\n}\n\n"
+        text += "impl Elm {\n    fn new(of: Text<A>) {\n        of.copy(alloc);\n    }\n}\n"
+        rattle = receivers.Rattle({**self.TEXTS, "crates/low/src/more.rt": text})
+        for owner, answers in (("Node", {3: True, 9: False}), ("Text", {3: False, 9: True})):
+            self.assertEqual(rattle.calls("crates/low/src/more.rt", "copy", owner), answers, owner)
+
     def test_where_a_bracket_is_closed(self):
         """Neither an arrow closes anything."""
         for text in ("(a)", "(a => [b], c)", "<F: Fn(u8) -> Vec<u8>>", "{ x => (y), _ => {} }", "[(1, <A>)]"):

@@ -318,7 +318,8 @@ class Packages(unittest.TestCase):
         self.write("CHANGELOG.md", "# Changelog\n\n## 1.2.3, 2026-03-04\n\n- a\n\n## 1.2.2, 2026-03-01\n\n- b\n")
         self.write("bindings/version", '#!/bin/sh\n[ "${1:-}" = seconds ] && echo 1772582400 || echo 1.2.3\n', 0o755)
         tree = 'for it in bin lib share/doc/makhloeum share/makhloeum/go; do mkdir -p "$1/$it"; done; cp said "$1/bin/tool"'
-        self.write(".ci/tree", f"#!/bin/sh\n{tree}\n", 0o755)
+        documents = '[ ! -d documents ] || cp -R documents/. "$1/share/doc/makhloeum"'
+        self.write(".ci/tree", f"#!/bin/sh\n{tree}\n{documents}\n", 0o755)
         self.write(".ci/debs", '#!/bin/sh\necho a package >"$2/a.deb"\n', 0o755)
         self.write("tools/python3", "#!/bin/sh\nexit 1\n", 0o755)
         self.write("bindings/wheel", "#!/bin/sh\n", 0o755)
@@ -336,6 +337,21 @@ class Packages(unittest.TestCase):
         self.assertEqual((status, made), (1, []))
         self.assertIn("/bin/tool was made without proofs, by ./try\n", said)
         self.assertEqual(self.dist("--unproved")[::2], (0, names))
+
+    def test_the_documents_are_at_the_top_of_an_archive(self):
+        self.write("said", "tool 1.2.3\n")
+        self.write("documents/README.md", "text\n")
+        self.write("documents/docs/FORMATS.md", "more\n")
+        self.assertEqual(self.dist()[0], 0)
+        name = f"makhloeum-1.2.3-{os.uname().machine}"
+        os.mkdir(f"{self.top}/unpacked")
+        self.assertEqual(self.run_it("tar", "-C", "unpacked", "-xzf", f"out/{name}.tar.gz"), (0, "", ""))
+        at = f"{self.top}/unpacked/{name}"
+        self.assertEqual(sorted(os.listdir(at)), ["README.md", "docs", "install", "tree", "uninstall"])
+        for place in (at, f"{at}/tree/share/doc/makhloeum"):
+            for path, text in (("README.md", "text\n"), ("docs/FORMATS.md", "more\n")):
+                with open(f"{place}/{path}", encoding="utf-8") as it:
+                    self.assertEqual(it.read(), text, path)
 
     def test_a_release_has_checksums_and_notes(self):
         self.write("said", "tool 1.2.3\n")

@@ -67,6 +67,19 @@ class Unproved(MadeUp):
         self.assertEqual(calls, [f"{name} try --test --seconds 1800" for name in ("high", "low")])
         self.assertEqual(lines[-1], "2 passed, 0 failed")
 
+    def test_a_test_may_be_in_any_source_of_its_crate(self):
+        for name in ("low", "high", "beside"):
+            self.write(f"crates/{name}/src/lib.rt", "mod more;\n")
+        self.write("crates/low/src/more.rt", TEST)
+        self.write("crates/high/src/more/deep.rt", TEST)
+        self.write("crates/beside/src/notes.md", TEST)
+        calls, lines = self.tried("--crates")
+        self.assertEqual(
+            calls,
+            [*(f"{name} try --test --seconds 1800" for name in ("high", "low")), "program try --seconds 1800"],
+        )
+        self.assertEqual(lines[-1], "3 passed, 0 failed")
+
     def test_what_is_committed_counts_since_the_commit(self):
         self.git("checkout", "--quiet", "-b", "mine")
         self.write("crates/high/src/more.rt", "")

@@ -311,6 +311,35 @@ def test_a_file_is_no_folder(h, real):
         os.close(fd)
 
 
+def test_a_slash_after_a_file(h, real):
+    """It says that a folder is meant."""
+    for top in (AT, real):
+        path = f"{top}/a/pids.max/"
+        for call in (os.stat, os.lstat, os.listdir, os.rmdir, os.unlink, os.readlink, open):
+            assert told(call, path) == ("ENOTDIR", path), call
+        assert told(os.chmod, path, 0o600) == told(os.truncate, path, 0) == ("ENOTDIR", path)
+        assert not os.path.exists(path) and not os.access(path, os.F_OK)
+        assert told(os.stat, f"{top}/none/pids.max/") == ("ENOENT", f"{top}/none/pids.max/")
+        assert stat.S_ISDIR(os.stat(f"{top}/a/").st_mode) and stat.S_ISDIR(os.lstat(f"{top}/a/").st_mode)
+
+
+@pytest.mark.parametrize(
+    "name, of_unlink, of_rmdir",
+    [
+        ("a/.", "EISDIR", "EINVAL"),
+        ("a/..", "EISDIR", "ENOTEMPTY"),
+        ("none/.", "ENOENT", "ENOENT"),
+        ("none/..", "ENOENT", "ENOENT"),
+        ("a/pids.max/.", "ENOTDIR", "ENOTDIR"),
+        ("none/pids.max/.", "ENOENT", "ENOENT"),
+    ],
+)
+def test_what_is_above_a_point_comes_first(h, real, name, of_unlink, of_rmdir):
+    for top in (AT, real):
+        path = f"{top}/{name}"
+        assert (told(os.unlink, path), told(os.rmdir, path)) == ((of_unlink, path), (of_rmdir, path)), top
+
+
 @pytest.mark.parametrize("name", ["a\0", "\0", "a\0/pids.max", "a/pids.max\0x", "none/../\0"])
 def test_a_name_with_a_null_byte(h, real, name):
     for top in (AT, real):

@@ -467,6 +467,19 @@ def test_a_thousand_changes(h, ready):
     os.close(fd)
 
 
+def test_changes_before_a_read_are_told_once(h, ready):
+    """A byte for each of them would fill the socket."""
+    fd, limit = os.open(f"{AT}/a/cgroup.events", os.O_RDONLY), os.open(f"{AT}/a/pids.max", os.O_WRONLY)
+    for _ in range(1000):
+        assert os.write(limit, b"7") == 1
+    assert ready(fd, 0) and os.read(fd, 99) == b"populated 0\nfrozen 0\n" and not ready(fd, 0)
+    with open(f"{AT}/a/cgroup.procs", "w") as procs:
+        procs.write("1")
+    assert ready(fd, 0) and os.pread(fd, 99, 0) == b"populated 1\nfrozen 0\n" and not ready(fd, 0)
+    for it in (fd, limit):
+        os.close(it)
+
+
 def test_a_number_that_can_be_waited_for_takes_nothing_else(h, tmp_path):
     (tmp_path / "f").write_text("real")
     # only the superuser can open it against its mode

@@ -145,6 +145,15 @@ def test_commands_about_groups_and_files(groups, served):
     assert groups.mkdir("/x") == groups.unmake("/x") == "" and served.children("/own/top3") == ["a"]
 
 
+def test_a_path_has_a_letter_for_each_byte(groups, tmp_path):
+    """The engine refuses such a name, so that the groups are real folders."""
+    groups.top = str(tmp_path)
+    for remove in (groups.unmake, groups.rmdir):
+        assert groups.mkdir("/\xc3\xa9\xff") == "" and os.listdir(os.fsencode(tmp_path)) == [b"\xc3\xa9\xff"]
+        assert remove("/\xc3\xa9\xff") == "" and os.listdir(tmp_path) == []
+    groups.top = TOP
+
+
 def test_commands_about_processes(groups, served):
     groups.mkdir("/a")
     assert groups.fork(1, 2, "/", False) == "1\n2\n" and groups.fork(2, 3, "/", False) == "1\n2\n3\n"
