@@ -287,7 +287,24 @@ def kept():
         os.close(fd)
 
 
-INSIDE = (interrupted, children, zombies, filters, opens, tables, untold, kept, contained)
+def several():
+    """A change is told to all who wait, each by an open table of its own."""
+    home, ready = tempfile.mkdtemp().encode(), {}
+    for _ in range(8):
+        fd = os.open("/proc/self/mounts", os.O_RDONLY)
+        ready[fd] = select.epoll()
+        ready[fd].register(fd, select.EPOLLPRI)
+    for change, args in ((libc.mount, (b"x", home, b"tmpfs", 0, None)), (libc.umount2, (home, DETACH))) * 3:
+        waiting = {fd: Beside(each.poll, PATIENCE) for fd, each in ready.items()}
+        same("a change", change(*args), 0)
+        got = {fd: each.result() for fd, each in waiting.items()}
+        same("is told to each", got, {fd: [(fd, CHANGED)] for fd in ready})
+    for fd, each in ready.items():
+        each.close()
+        os.close(fd)
+
+
+INSIDE = (interrupted, children, zombies, filters, opens, tables, untold, kept, several, contained)
 inside(*INSIDE)
 
 
@@ -300,7 +317,7 @@ def run(test):
             resource.setrlimit(resource.RLIMIT_NOFILE, (1024, 1024))
 
     more = {opens: ["--keep", "memory,cpu,io,cpuset"], contained: ["--keep", "cpu,cpuset,memory"]}.get(test, [])
-    more += ["--root"] if test in (tables, kept) else []
+    more += ["--root"] if test in (tables, kept, several) else []
     ran = subprocess.run(
         [PROGRAM, "run", *more, sys.executable, ME, "inside", test.__name__], timeout=6 * PATIENCE, preexec_fn=limit
     )
