@@ -230,6 +230,17 @@ def test_a_rule_for_a_process_undoes_a_command_where_there_is_none(data, names_o
 
 
 @FEW
+@given(st.data())
+def test_a_group_for_limits_is_made_only_if_there_is_none(data):
+    machine = Recorded()
+    with machine.h as h:
+        made = machine._below_root(data)
+        assert h.groups() == ["/", made]
+        assert machine._below_root(data) == made
+        assert machine.done == [(f"mkdir {made}", None)]
+
+
+@FEW
 @given(st.data(), st.sampled_from((("cgroup.max.depth", Depth), ("cgroup.max.descendants", Descendants))))
 def test_a_limit_is_set_on_the_group_that_it_then_blocks(data, limit):
     file, refused = limit
