@@ -147,6 +147,14 @@ def numbers():
         each("a read of " + file, lambda: read(b + "/" + file))
     each("a stat of a group", lambda: os.stat(b).st_nlink)
     each("a stat of no group", lambda: os.stat(m.path("a", "x")))
+    e = m.path("a", "e")
+    os.mkdir(e)
+    each(
+        "a stat of a group that an undo has brought back",
+        lambda: os.stat(e).st_nlink,
+        again=lambda: (os.rmdir(e), write(m.control("undo"), b"1")),
+    )
+    os.rmdir(e)
     each("a stat of a file", lambda: os.stat(b + "/cgroup.procs").st_size)
     each("a listing", lambda: sorted(os.listdir(b)))
     each("an attribute of no name", lambda: os.getxattr(b, "user.x"))
