@@ -338,7 +338,7 @@ def started(*words):
     except subprocess.TimeoutExpired:
         os.killpg(p.pid, signal.SIGKILL)
         out, said = p.communicate()
-    return p.returncode, out, b"".join(line for line in said.splitlines(True) if not line.startswith(b"fuse: "))
+    return p.returncode, out, re.sub(rb"fuse: .*\n", b"", said)  # libfuse's lines, also within one of another process
 
 
 def each_start(name, is_right, *words):

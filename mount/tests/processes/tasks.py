@@ -660,6 +660,20 @@ def uncounted():
     finally_empty(b)
 
 
+def many():
+    """More births than there may be at once, one after another: their tickets take the places of those before."""
+    a = (top / "a").make()
+    t = Tasks(a)
+    same("70,000 threads", type(t.ask("churn", "70000")), int)
+    same("one is left", a.current(), 1)
+    same("another thread and a child", [type(t.ask(what)) for what in ("thread", "fork")], [int, int])
+    same("they are counted", a.current(), 3)
+    a.write("cgroup.kill", 1)
+    same("a kill ends it", t.process.wait(PATIENCE), -signal.SIGKILL)
+    t.end()
+    finally_empty(a)
+
+
 def full():
     """A process with five threads moves until the trace is full. The last move fails at one of its five lines."""
     a, b = (top / "a").make(), (top / "b").make()
@@ -694,6 +708,7 @@ INSIDE = (
     stopped_server,
     mixed,
     uncounted,
+    many,
     full,
 )
 
