@@ -1,9 +1,11 @@
 /* Small libraries for LD_PRELOAD, in each of which one call answers in another way. A macro says which one is made. */
 #include <dlfcn.h>
 #include <errno.h>
+#include <linux/fuse.h>
 #include <pthread.h>
 #include <signal.h>
 #include <sys/syscall.h>
+#include <sys/uio.h>
 #include <time.h>
 #include <unistd.h>
 
@@ -46,6 +48,20 @@ int clock_gettime(clockid_t clock, struct timespec *now)
 	if (clock == CLOCK_REALTIME)
 		now->tv_sec += 3600;
 	return result;
+}
+
+#elif defined SLOW_ANSWER
+
+/* Whoever has written an answer without an error is slow afterwards, so that others are refused before it goes on. */
+ssize_t writev(int fd, const struct iovec *parts, int count)
+{
+	const struct fuse_out_header *head = parts->iov_base;
+	long n = syscall(SYS_writev, fd, parts, count);
+	int fault = errno;
+	if (head->error == 0)
+		usleep(500000);
+	errno = fault;
+	return n;
 }
 
 #elif defined SLOW_KILL

@@ -88,15 +88,14 @@ static struct fuse_session *make_session(void)
 	return session;
 }
 
-/* Until its first answer nobody can use the mount. If that is an errno, or cannot be written, nobody ever can. Several threads may
-   answer; one of them calls when_ready. */
+/* Until its first answer nobody can use the mount. If that is an errno, or cannot be written, nobody ever can. */
 static atomic_bool has_begun;
 static void (*when_ready)(void);
 
 static void begin(void)
 {
-	if (!atomic_load(&has_begun) && !atomic_exchange(&has_begun, true))
-		when_ready();
+	atomic_store(&has_begun, true);
+	when_ready();
 }
 
 /* A read from an unmounted connection fails with ENODEV, or with ECONNABORTED if a request was still pending. At ENODEV
@@ -117,13 +116,17 @@ static int first_fault;
 
 static ssize_t write_reply(int to, struct iovec *reply, int parts, void *unused)
 {
+	/* Nobody sends another request before the first one was answered. From then on other threads answer, also before this one
+	   goes on behind the call of writev. */
+	static atomic_bool has_answered;
 	const struct fuse_out_header *head = reply->iov_base;
+	bool is_first = !atomic_load(&has_answered) && !atomic_exchange(&has_answered, true);
 	(void)unused;
 	ssize_t n = writev(to, reply, parts);
 	int fault = n < 0 ? errno : -head->error;
-	if (fault == 0)
+	if (is_first && fault == 0)
 		begin();
-	else if (!atomic_load(&has_begun)) { /* one thread answers the first request, and nobody sends another before */
+	else if (is_first) {
 		first_fault = fault;
 		fuse_session_exit(own_session);
 	}

@@ -80,6 +80,14 @@ def unmounted_while_open():
     step("cgreplay gives the same answers", m.replay())
 
 
+def refused_at_first(slow):
+    """A call that is refused while the thread that has answered the first request has not gone on yet."""
+    m = Mount(preload=slow)
+    same("a name that is missing", [error_of(os.stat, m.path("none%d" % i)) for i in range(5)], ["ENOENT"] * 5)
+    same("a group", error_of(os.mkdir, m.path("a")), "ok")
+    m.end()
+
+
 def unmounted_with_a_request_pending(preload):
     """The server's read fails with ECONNABORTED in place of ENODEV; the mount ends as ever."""
     m = Mount(preload=preload)
@@ -388,7 +396,8 @@ for test, args in (
 ):
     test(*args)
 # only with the plain build: the sanitizers' library has to be loaded first
-ABORTED = os.path.join(os.path.dirname(PROGRAM), "aborted.so")
+ABORTED, SLOW_ANSWER = (os.path.join(os.path.dirname(PROGRAM), name) for name in ("aborted.so", "slow_answer.so"))
 if os.path.exists(ABORTED):
     unmounted_with_a_request_pending(ABORTED)
+    refused_at_first(SLOW_ANSWER)
 finish()
