@@ -17,7 +17,7 @@ ME = os.path.realpath(__file__)
 # With an arena for each thread the memory grows until each has had its turn with the most records.
 os.environ["MALLOC_ARENA_MAX"] = "1"
 ROUNDS, LEAST = 300, 24  # bytes: what is allocated takes more
-MOST = 16  # sizes that are compared, each after that many rounds
+FEWEST, MOST = 5, 16  # how many sizes are compared, each after that many rounds
 CLONE = 56 if os.uname().machine == "x86_64" else 220
 PAGE = os.sysconf("SC_PAGE_SIZE")
 
@@ -171,11 +171,12 @@ def of_mount():
         for _ in range(ROUNDS // 2):
             operation()
         sizes, grows = [resident(m.process.pid)], True
-        while grows and len(sizes) < MOST:  # in some a thread begins, on a busy machine in several one after another
+        while len(sizes) < FEWEST or grows and len(sizes) < MOST:
             for _ in range(ROUNDS):
                 operation()
             sizes.append(resident(m.process.pid))
-            grows = sizes[-1] - sizes[-2] >= LEAST * ROUNDS
+            # a thread may begin in some of them, on a busy machine in several one after another
+            grows = min(after - was for was, after in zip(sizes, sizes[1:])) >= LEAST * ROUNDS
         step("%s: no memory is kept" % name, not grows, sizes)
         same("%s: no descriptor is kept" % name, open_of(m.process.pid), before)
     twice("cgroup.freeze", *(b"1", b"0") * 20)
