@@ -322,6 +322,12 @@ class Quick(Gates):
             self.assertEqual(self.stopped(".ci/quick", ".ci/unproved", number), status)
             self.assertNotIn("bindings/build", self.calls())
 
+    def test_it_ends_if_a_part_ends_by_an_interrupt(self):
+        """A gate in bash was seen to go on after an interrupt, once in 200 tries; why is not known. The parts get it too."""
+        self.write(".ci/unproved", "#!/bin/sh\nkill -INT $$\n", 0o755)
+        self.assertEqual(self.quick()[0], 130)
+        self.assertNotIn("bindings/build", self.calls())
+
     def test_short_runs_are_of_these_tests(self):
         self.quick()
         calls = {call.split()[0]: call.split()[1:] for call in self.calls()}

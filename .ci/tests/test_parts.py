@@ -95,10 +95,11 @@ end_parts"""
         self.assertEqual((status, lines[:4]), (0, ["== some words", "a b", "c", "== no input"]))
 
     def test_a_command_does_not_ignore_the_signals_of_a_keyboard(self):
-        for name in ("INT", "QUIT"):
+        for name, wanted in (("INT", 130), ("QUIT", 1)):
             lines = f"""part "it is sent one" sh -c 'ulimit -c 0; kill -{name} $$; echo it goes on'\nend_parts"""
             status, said, _ = self.played(lines)
-            self.assertEqual((status, "it goes on" in said), (1, False), said)
+            self.assertEqual((status, "it goes on" in said), (wanted, False), said)
+            self.assertEqual("it is sent one: ended by an interrupt, and so ends all" in said, wanted == 130, said)
 
     def test_a_part_is_ended_with_its_gate(self):
         part = """part "waits" bash -c 'trap "echo ended >>$1/log; exit" TERM; echo began >>$1/log; while :; do sleep 0.01; done' part "$work" """
