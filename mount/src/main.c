@@ -98,11 +98,12 @@ static int show(const char *text)
 	return FAILED;
 }
 
-/* The status 2, as for all that is refused before it begins. */
+enum { REFUSED = 2 }; /* the status of all that is refused before it begins */
+
 static int bad(void)
 {
 	fprintf(stderr, "makhloeum: bad command line; see makhloeum --help\n");
-	return 2;
+	return REFUSED;
 }
 
 /* Reads the options from argv[at] on. Returns the index after them, or -1. */
@@ -144,7 +145,7 @@ static int read_options(int argc, char **argv, int at, struct wishes *w)
 
 /* ---------------------------------------------------------------- commands that are separate programs */
 
-enum { UNKNOWN = 2, NAME_MOST = 64 };
+enum { NAME_MOST = 64 };
 
 /* A name has no slash, so that makhloeum-NAME is a file in the folders that are searched. */
 static int is_name(const char *word)
@@ -173,7 +174,7 @@ static int subcommand_start(char **words)
 	const char *name = words[0];
 	if (!is_name(name)) {
 		say("'%s' is not a command; makhloeum --help lists them", name);
-		return UNKNOWN;
+		return REFUSED;
 	}
 	snprintf(program, sizeof program, "makhloeum-%s", name);
 	find_folder(folder, sizeof folder);
@@ -188,7 +189,7 @@ static int subcommand_start(char **words)
 		say("'%s' is not a command, and there is no %s on PATH; makhloeum --help lists the commands", name, program);
 	else
 		say("%s cannot be started: %s", program, strerror(fault));
-	return UNKNOWN;
+	return REFUSED;
 }
 
 /* Help, version and the separate programs come before have_streams: they open nothing. */
@@ -207,8 +208,10 @@ int main(int argc, char **argv)
 	if (argc >= 2 && !has_command)
 		return argv[1][0] == '-' ? bad() : subcommand_start(argv + 1);
 	/* only now: a command that is a separate program is told which of its streams are closed, and help says it */
-	if (!have_streams())
-		return 1;
+	if (!have_streams()) {
+		say("/dev/null cannot be opened: %s", strerror(errno));
+		return REFUSED;
+	}
 	if (argc < 3)
 		return bad();
 	int at = read_options(argc, argv, 2, &w);

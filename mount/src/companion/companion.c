@@ -191,13 +191,9 @@ bool companion_tell_now(int to, const char *path)
 	return send(to, path, strlen(path), MSG_NOSIGNAL | MSG_DONTWAIT) >= 0;
 }
 
-bool companion_tell(int to, const char *path)
+void companion_tell(int to, const char *path)
 {
 	/* It waits while the socket is full: so a thread without locks calls it. */
-	while (send(to, path, strlen(path), MSG_NOSIGNAL) < 0) {
-		if (errno != EINTR && errno != ENOBUFS && errno != ENOMEM)
-			return false;
+	while (send(to, path, strlen(path), MSG_NOSIGNAL) < 0 && (errno == EINTR || errno == ENOBUFS || errno == ENOMEM))
 		usleep(10000); /* as above */
-	}
-	return true;
 }

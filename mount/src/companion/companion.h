@@ -29,9 +29,9 @@ struct companion {
 bool companion_start(struct companion *out, const char *mountpoint, int root);
 /* Which mount it is, with root -1. False with errno. */
 bool companion_show(int to, const struct mount_id *which);
-/* The text of the file has changed: /GROUP/FILE. Waits while the companion is busy; false once the
-   socket was shut. The caller has no lock. */
-bool companion_tell(int to, const char *path);
+/* The text of the file has changed: /GROUP/FILE. Waits while the companion is busy, and does nothing once it has ended. The caller
+   has no lock. */
+void companion_tell(int to, const char *path);
 /* The same without waiting: false if the companion is busy too. */
 bool companion_tell_now(int to, const char *path);
 

@@ -172,7 +172,7 @@ static enum effect effect_since(size_t before)
 /* Brings back the state before the line that was answered: what it recorded is undone, and what it undid is done again. */
 static bool step_back(enum effect effect)
 {
-	uint32_t code, status;
+	uint32_t code;
 	size_t before = depth;
 	/* A refused fork that was counted is a record too, and is undone like a command. */
 	if (effect == NOTHING)
@@ -180,17 +180,14 @@ static bool step_back(enum effect effect)
 	if (effect == UNDONE) {
 		take_text();
 		/* The text of an undo is the command that it undid, as a line. */
-		if (text.size == 0 || text.size > sizeof line)
-			return false;
 		line_size = text.size - 1;
 		memcpy(line, text.at, line_size);
 	} else {
 		line_size = 4;
 		memcpy(line, "undo", line_size);
 	}
-	status = ask(0, &code);
-	return (status == MK_DONE || status == MK_REFUSED) &&
-		effect_since(before) == (effect == UNDONE ? RECORDED : UNDONE);
+	ask(0, &code);
+	return effect_since(before) == (effect == UNDONE ? RECORDED : UNDONE);
 }
 
 /* A warning, once, if the trace is longer than cgreplay reads, and a comment at that place in the trace. */
@@ -198,32 +195,27 @@ static void tell_long(void)
 {
 	static const char mark[] = "# This trace is longer than 16,777,216 bytes: use cgshell, not cgreplay.\n";
 	/* It may fail: then the trace lacks a comment and no line. */
-	if (trace->fd >= 0 && trace->size > TRACE_BYTES && trace_file_tell_long(trace))
+	if (trace->size > TRACE_BYTES && trace_file_tell_long(trace))
 		trace_file_add(trace, mark, sizeof mark - 1);
 }
 
-/* Keeps the first `*size` bytes of `line` behind a comment that says when, since the engine's start. `*size` is then that
-   of both. 0 or -errno */
-static int keep_line(size_t *size)
+/* Keeps `line`, which ends in a line feed, behind a comment that says when, since the engine's start. 0 or -errno */
+static int keep_line(size_t size)
 {
 	static char both[TIME_MAX + LINE_BYTES];
 	struct timespec now;
 	clock_gettime(CLOCK_MONOTONIC, &now);
 	long long passed = (now.tv_sec - started.tv_sec) * 1000000LL + (now.tv_nsec - started.tv_nsec) / 1000;
 	int n = snprintf(both, TIME_MAX, "# at %lld.%06lld\n", passed / 1000000, passed % 1000000);
-	memcpy(both + n, line, *size);
-	*size += (size_t)n;
-	return trace_file_add(trace, both, *size);
+	memcpy(both + n, line, size);
+	return trace_file_add(trace, both, (size_t)n + size);
 }
 
-/* False if out of memory: then nothing has changed. */
-static bool forget(void)
+/* The state stays; only the records go. It cannot fail: there is an engine, and it needs no memory. */
+static void forget(void)
 {
-	/* It takes no lock of its own. The state stays; only the records go. */
-	bool done = mk_forget(&engine) == MK_DONE;
-	if (done)
-		depth = 0;
-	return done;
+	mk_forget(&engine);
+	depth = 0;
 }
 
 /* `line` has the text; 0 or -errno. The line is kept before the engine is asked, and its answer after that: a device without room refuses
@@ -232,29 +224,24 @@ static bool forget(void)
 static int ask_and_keep(void)
 {
 	uint32_t code;
-	int fault = 0;
-	size_t size = line_size + 1;
 	line[line_size] = '\n';
-	line[size] = 0;
-	/* Not within an operation of several lines: its first lines may have to be undone. If there is
-	   no memory for it, it is tried again at the next line. */
+	/* Not within an operation of several lines: its first lines may have to be undone. */
 	if (!has_history && !several.are_open && depth >= FORGET_AT)
 		forget();
 	size_t before = depth;
-	/* The size that is kept grows by the comment: `size` is what has to be taken back if the line
-	   fails. */
-	if (trace->fd >= 0 && (fault = keep_line(&size)))
+	off_t kept = trace->size; /* where the trace is cut if the line fails */
+	int fault = keep_line(line_size + 1);
+	if (fault)
 		return fault;
 	uint32_t status = ask(number, &code);
 	enum effect effect = effect_since(before);
 	if (status != MK_DONE && status != MK_REFUSED && status != MK_FAULT)
 		fault = -ENOMEM; /* nothing has changed: so the line was never there */
-	else if (answers->fd >= 0 && (fault = trace_file_add(answers, answer.at, answer.size)) && !step_back(effect))
+	else if ((fault = trace_file_add(answers, answer.at, answer.size)) && !step_back(effect))
 		trace->broken = answers->broken =
 			EIO; /* out of memory: the state is ahead of the answers, and goes no further */
 	if (fault) {
-		if (trace->fd >= 0)
-			trace_file_take_back(trace, size);
+		trace_file_take_back(trace, kept);
 		return fault;
 	}
 	number++;
@@ -267,7 +254,7 @@ int engine_begin(void)
 {
 	WANTS_LOCK();
 	int fault = has_history ? undo_steps_make_room() : 0;
-	several.are_open = fault == 0;
+	several.are_open = true;
 	/* What engine_finish goes back to after a fault. */
 	several.depth = depth;
 	several.number = number;
@@ -294,29 +281,26 @@ int engine_finish(int fault)
 		return fault;
 	}
 	/* The lines and their answers go together, so that a replay of the one gives the other. */
-	trace_file_take_back(trace, (size_t)(trace->size - several.trace));
-	trace_file_take_back(answers, (size_t)(answers->size - several.answers));
+	trace_file_take_back(trace, several.trace);
+	trace_file_take_back(answers, several.answers);
 	number = several.number;
 	return fault;
 }
 
-__attribute__((format(printf, 1, 0))) static bool set_line(const char *format, va_list words)
+/* Each has room, also for its line feed: LINE_BYTES is about twice PATH_BYTES, and a line has at most one path. */
+__attribute__((format(printf, 1, 0))) static void set_line(const char *format, va_list words)
 {
-	int n = vsnprintf(line, sizeof line - 2, format, words);
-	line_size = n > 0 ? (size_t)n : 0;
-	/* Two bytes stay free, for the line feed and the zero byte behind it. */
-	return n > 0 && (size_t)n < sizeof line - 2;
+	line_size = (size_t)vsnprintf(line, sizeof line, format, words);
 }
 
-/* -ENAMETOOLONG: the line is longer than the trace language allows. */
 int engine_line(const char *format, ...)
 {
 	va_list words;
 	WANTS_LOCK();
 	va_start(words, format);
-	bool fits = set_line(format, words);
+	set_line(format, words);
 	va_end(words);
-	return fits ? ask_and_keep() : -ENAMETOOLONG;
+	return ask_and_keep();
 }
 
 /* The number 0 says that the line is not part of the trace. */
@@ -326,10 +310,8 @@ int engine_look(const char *format, ...)
 	va_list words;
 	WANTS_LOCK();
 	va_start(words, format);
-	bool fits = set_line(format, words);
+	set_line(format, words);
 	va_end(words);
-	if (!fits)
-		return -ENAMETOOLONG;
 	uint32_t status = ask(0, &code);
 	return error_of(status, code);
 }
@@ -348,11 +330,9 @@ size_t engine_depth(void)
 	return depth;
 }
 
-int engine_forget(void)
+void engine_forget(void)
 {
 	WANTS_LOCK();
-	if (!forget())
-		return -ENOMEM;
+	forget();
 	undo_steps_cut(0);
-	return 0;
 }

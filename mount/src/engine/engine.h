@@ -59,8 +59,8 @@ int engine_current(const char *group, uint64_t *count);
 int engine_limit(const char *group, uint64_t *limit);
 size_t engine_depth(void);
 
-/* Keeps the state and drops the records: nothing earlier can be undone. 0 or -errno */
-int engine_forget(void);
+/* Keeps the state and drops the records: nothing earlier can be undone. */
+void engine_forget(void);
 
 /* The recorded commands from a place on, oldest first, as a trace; the oldest has place 0. 0 or -ENOMEM */
 int engine_history(size_t from, const char **lines, size_t *size);

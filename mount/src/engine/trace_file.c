@@ -7,18 +7,15 @@
 #include <unistd.h>
 
 /* It never waits: a FIFO without a reader is refused and not opened. It is opened without O_CREAT
-   first: so the caller knows whether it made the file, and may remove it if the mount does not
-   begin. */
-static int open_to_write(const char *name, bool *was_made)
+   first: so it is known whether it was made, and it may be removed if the mount does not begin. */
+static void open_to_write(struct trace_file *k)
 {
 	const int flags = O_WRONLY | O_CLOEXEC | O_NONBLOCK;
-	int fd = open(name, flags);
-	*was_made = false;
-	if (fd < 0 && errno == ENOENT) {
-		fd = open(name, flags | O_CREAT, 0600);
-		*was_made = fd >= 0;
-	}
-	return fd;
+	k->fd = open(k->name, flags);
+	if (k->fd >= 0 || errno != ENOENT) /* else a file that was there could be taken for a new one, and be removed */
+		return;
+	k->fd = open(k->name, flags | O_CREAT, 0600);
+	k->was_made = k->fd >= 0;
 }
 
 bool trace_file_open(struct trace_file *k, const char *name)
@@ -26,7 +23,7 @@ bool trace_file_open(struct trace_file *k, const char *name)
 	*k = (struct trace_file){ .fd = -1, .name = name };
 	if (!name)
 		return true;
-	k->fd = open_to_write(name, &k->was_made);
+	open_to_write(k);
 	if (k->fd < 0 || fstat(k->fd, &k->is)) {
 		say("%s cannot be written: %s", name, strerror(errno));
 		return false;
@@ -39,18 +36,17 @@ bool trace_file_open(struct trace_file *k, const char *name)
 }
 
 /* Two options with one regular file would overwrite each other's text. A character device, as
-   /dev/null, may be both. */
+   /dev/null, may be both. What is not open is no regular file, and on no device. */
 bool trace_file_is_same(const struct trace_file *a, const struct trace_file *b)
 {
-	return a->fd >= 0 && b->fd >= 0 && S_ISREG(a->is.st_mode) && a->is.st_dev == b->is.st_dev &&
-		a->is.st_ino == b->is.st_ino;
+	return S_ISREG(a->is.st_mode) && a->is.st_dev == b->is.st_dev && a->is.st_ino == b->is.st_ino;
 }
 
 /* Both files are opened and looked at before either is emptied: options that are refused leave an
    old trace as it was. */
 bool trace_file_begin(struct trace_file *k)
 {
-	if (k->fd < 0 || !S_ISREG(k->is.st_mode) || ftruncate(k->fd, 0) == 0)
+	if (!S_ISREG(k->is.st_mode) || ftruncate(k->fd, 0) == 0)
 		return true;
 	say("%s cannot be emptied: %s", k->name, strerror(errno));
 	return false;
@@ -58,11 +54,8 @@ bool trace_file_begin(struct trace_file *k)
 
 void trace_file_abandon(struct trace_file *k)
 {
-	if (k->fd >= 0 && k->was_made)
+	if (k->was_made)
 		unlink(k->name);
-	if (k->fd >= 0)
-		close(k->fd);
-	k->fd = -1;
 }
 
 /* Cuts off what a refused text left. If that fails too, the next text overwrites it, or the close cuts it off. */
@@ -87,6 +80,8 @@ static int fault_of(struct trace_file *k, size_t done)
 int trace_file_add(struct trace_file *k, const char *bytes, size_t size)
 {
 	bool regular = S_ISREG(k->is.st_mode);
+	if (k->fd < 0)
+		return 0;
 	if (k->broken)
 		return -k->broken;
 	for (size_t done = 0; done < size;) {
@@ -105,9 +100,9 @@ int trace_file_add(struct trace_file *k, const char *bytes, size_t size)
 }
 
 /* A character device has taken the text. There only the size is corrected. */
-void trace_file_take_back(struct trace_file *k, size_t size)
+void trace_file_take_back(struct trace_file *k, off_t size)
 {
-	k->size -= (off_t)size;
+	k->size = size;
 	if (S_ISREG(k->is.st_mode))
 		cut_rest(k);
 }
@@ -146,5 +141,4 @@ void trace_file_close(struct trace_file *k)
 	if (k->has_rest)
 		cut_rest(k);
 	close(k->fd);
-	k->fd = -1;
 }

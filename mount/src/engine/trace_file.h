@@ -28,12 +28,12 @@ bool trace_file_open(struct trace_file *file, const char *name);
 bool trace_file_is_same(const struct trace_file *a, const struct trace_file *b);
 /* Empties it, before the first text. */
 bool trace_file_begin(struct trace_file *file);
-/* Closes it, and removes it if trace_file_open made it. */
+/* Removes it if trace_file_open made it. The process is about to end. */
 void trace_file_abandon(struct trace_file *file);
-/* 0 or -errno: then nothing was added, and the next try may succeed. It waits for the device. */
+/* 0 or -errno: then nothing was added, and the next try may succeed. It waits for the device. Where nothing is kept it does nothing. */
 int trace_file_add(struct trace_file *file, const char *bytes, size_t size);
-/* Removes the newest text again. */
-void trace_file_take_back(struct trace_file *file, size_t size);
+/* Removes what was added since it had this size. */
+void trace_file_take_back(struct trace_file *file, off_t size);
 /* Says, once, that it is too long for cgreplay, in a thread of its own: standard error may be a pipe that nobody reads, and the caller
    has the engine's lock. False if that was said before, or if there is no thread for it. */
 bool trace_file_tell_long(struct trace_file *file);

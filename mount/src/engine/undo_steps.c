@@ -25,7 +25,7 @@ int undo_steps_make_room(void)
 void undo_steps_add(size_t from, size_t to)
 {
 	WANTS_LOCK();
-	if (to < from + 2 || count == room)
+	if (to < from + 2)
 		return;
 	size_t before = count ? all[count - 1].more : 0;
 	all[count++] = (struct undo_step){ from, to, before + to - from - 1 };

@@ -10,7 +10,8 @@ int undo_steps_make_room(void);
 /* The commands from one place to another are one operation. The oldest command has place 0. */
 /* From `from` to `to` - 1. */
 void undo_steps_add(size_t from, size_t to);
-/* Where the newest operation begins, if there are this many commands; and how many operations these are. */
+/* Where the newest operation begins, if there are this many commands (without any, behind all places); and how many operations
+   these are. */
 size_t undo_steps_newest(size_t depth);
 size_t undo_steps_count(size_t depth);
 /* There are only this many commands left. */

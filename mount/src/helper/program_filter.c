@@ -10,7 +10,7 @@
 #include <sys/syscall.h>
 
 /* RED_ZONE: what a function may use below the stack pointer, by the ABI of x86_64. */
-enum { RED_ZONE = 128, ALIGNED = 16, UPPER_HALF = 4 };
+enum { RED_ZONE = 128, UPPER_HALF = 4 };
 
 /* The machine's bytes are in little endian. A filter begins with 0 in its register. */
 static const struct sock_filter beginning[] = {
@@ -53,7 +53,7 @@ unsigned long program_filter_copy(pid_t thread, unsigned long at, unsigned long 
 	size_t own = program->len * sizeof *copy.code, size = offsetof(__typeof__(copy), code) + sizeof beginning + own;
 	/* The thread is stopped in a call, so it does not use what is below its stack pointer and the
 	   red zone. */
-	unsigned long to = (stack - RED_ZONE - size) & ~(unsigned long)(ALIGNED - 1);
+	unsigned long to = stack - RED_ZONE - size;
 	memcpy(copy.code, beginning, sizeof beginning);
 	if (!program_memory_read(thread, (unsigned long)program->filter, copy.code + ADDED, own))
 		return 0;

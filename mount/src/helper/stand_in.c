@@ -12,13 +12,13 @@
 #include <sys/wait.h>
 
 /* In the order in which they are entered: once it is in the thread's user namespace, a process may not enter those that belong to
-   one above. */
+   one above. That of cgroups has no effect on what is mounted here. */
 static const struct {
 	const char *name;
 	int kind;
-} spaces[] = { { "net", CLONE_NEWNET }, { "ipc", CLONE_NEWIPC }, { "cgroup", CLONE_NEWCGROUP }, { "pid", CLONE_NEWPID },
-	{ "mnt", CLONE_NEWNS }, { "user", CLONE_NEWUSER } };
-enum { SPACES = sizeof spaces / sizeof *spaces, PID_SPACE = 3 };
+} spaces[] = { { "net", CLONE_NEWNET }, { "ipc", CLONE_NEWIPC }, { "pid", CLONE_NEWPID }, { "mnt", CLONE_NEWNS },
+	{ "user", CLONE_NEWUSER } };
+enum { SPACES = sizeof spaces / sizeof *spaces, PID_SPACE = 2 };
 
 /* What a thread has. */
 /* The descriptors belong to stand_in_call, which closes them after the call. */
@@ -119,8 +119,9 @@ static int end_of(pid_t child)
 
 /* The capabilities come last: until then it has all. The ids for files before the namespaces: they
    are numbers of this process's user namespace. The root after the mount namespace, since entering
-   that sets the root anew. */
-static int enter(const struct place *p)
+   that sets the root anew. The kernel forgets the signal of the parent's end when the ids change; what follows it may wait for the
+   program. */
+static int enter(const struct place *p, pid_t parent)
 {
 	struct __user_cap_header_struct head = { .version = _LINUX_CAPABILITY_VERSION_3 };
 	setfsgid((gid_t)p->group);
@@ -128,6 +129,8 @@ static int enter(const struct place *p)
 	for (size_t i = 0; i < SPACES; i++)
 		if (p->spaces[i] >= 0 && setns(p->spaces[i], spaces[i].kind))
 			return errno;
+	if (!own_processes_die_with(parent))
+		return EIO;
 	if (fchdir(p->root) || chroot(".") || fchdir(p->directory))
 		return errno;
 	return syscall(SYS_capset, &head, p->capabilities) ? errno : 0;
@@ -135,9 +138,9 @@ static int enter(const struct place *p)
 
 /* Only a child is in another namespace of process numbers, where this process has no number.
    own_processes_die_with(0): in the new namespace its parent has no number. */
-static int call_from(const struct place *p, int (*call)(const void *argument), const void *argument)
+static int call_from(const struct place *p, pid_t parent, int (*call)(const void *argument), const void *argument)
 {
-	int fault = enter(p);
+	int fault = enter(p, parent);
 	if (fault || p->spaces[PID_SPACE] < 0)
 		return fault ? fault : call(argument);
 	pid_t pid = fork();
@@ -156,7 +159,7 @@ int stand_in_call(pid_t thread, int (*call)(const void *argument), const void *a
 	/* only a process without other threads can enter a namespace */
 	pid_t self = getpid(), pid = fork();
 	if (pid == 0)
-		_exit(own_processes_die_with(self) ? call_from(&p, call, argument) : EIO);
+		_exit(call_from(&p, self, call, argument));
 	/* The call may block on the program: this thread then waits, and another one takes its place. */
 	int fault = pid < 0 ? errno : end_of(pid);
 	forget(&p);

@@ -125,10 +125,12 @@ static bool answer_statfs(int listener, const struct seccomp_notif *call)
 		return false;
 	cleanup_fd int file = by_path ? path_lookup_find(thread, AT_FDCWD, path, true, 0, NULL)
 								  : path_lookup_of_descriptor(thread, (int)call->data.args[0]);
-	if (file >= 0 && !mount_root_has(file))
+	if (file < 0)
+		return answer_no_memory(listener, call);
+	if (!mount_root_has(file))
 		return false;
 	bool is_text = mount_root_has_file(file, ".makhloeum.");
-	if (file < 0 || (is_text ? statfs(".", &st) : fstatfs(file, &st)))
+	if (is_text ? statfs(".", &st) : fstatfs(file, &st))
 		return answer_no_memory(listener, call);
 	if (!is_text)
 		st.f_type = CGROUP2_SUPER_MAGIC; /* the mount's own number is that of FUSE */
@@ -164,9 +166,7 @@ static bool read_how(pid_t thread, unsigned long at, size_t size, struct open_ho
 	bool makes = how->flags & O_CREAT; /* as O_TMPFILE does: the kernel answers every open with that (read_open) */
 	if (how->flags & ~known_flags || how->mode & ~(makes ? 07777ULL : 0ULL) || how->resolve & ~known_rules)
 		return false;
-	/* The kernel's own rules: EINVAL. This returns false, and the kernel says so. */
-	if (how->resolve & RESOLVE_CACHED && (makes || how->flags & O_TRUNC))
-		return false;
+	/* The kernel's own rule: EINVAL. This returns false, and the kernel says so. */
 	return (how->resolve & (RESOLVE_BENEATH | RESOLVE_IN_ROOT)) != (RESOLVE_BENEATH | RESOLVE_IN_ROOT);
 }
 

@@ -205,7 +205,7 @@ static int adopt_listed(pid_t parent, int list)
 }
 
 /* The children of each thread. 0 or -ENOMEM */
-/* The file `children` has those of one thread, so each thread's is read. */
+/* The file `children` has those of one thread, so each thread's is read. `.` and `..` have none. */
 static int adopt_children(pid_t pid)
 {
 	char path[320];
@@ -217,8 +217,6 @@ static int adopt_children(pid_t pid)
 	if (!threads)
 		return errno == ENOMEM ? -ENOMEM : 0;
 	while (fault == 0 && (thread = readdir(threads))) {
-		if (thread->d_name[0] == '.')
-			continue;
 		snprintf(path, sizeof path, "%d/task/%s/children", pid, thread->d_name);
 		cleanup_fd int list = open(path, O_RDONLY | O_CLOEXEC);
 		if (list >= 0)

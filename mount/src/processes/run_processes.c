@@ -171,9 +171,9 @@ static int may_make(pid_t parent)
 		fault = zombies_sweep(false);
 	if (fault)
 		return fault;
-	/* A process that a kill has reached may not fork any more: its child would escape the kill. */
+	/* A process that a kill has reached makes no child, whatever it is answered: SIGKILL was sent with this lock. */
 	bool is_known = is_of_run(parent) || parent == 0;
-	return is_known && process_at(parent)->life != DYING && has_room(parent) ? 0 : -EAGAIN;
+	return is_known && has_room(parent) ? 0 : -EAGAIN;
 }
 
 int run_processes_reserve(pid_t parent, const char *group, bool is_thread, unsigned *reservation)

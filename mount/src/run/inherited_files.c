@@ -43,20 +43,18 @@ bool inherited_files_let_go(void)
 	char link[40];
 	struct dirent *entry;
 	/* not ".", which needs the permission to search it */
-	cleanup_fd int folder = open("/proc/self/cwd", O_PATH | O_CLOEXEC);
-	cleanup_directory DIR *all = opendir("/proc/self/fd");
-	if (folder < 0 || !all) {
-		say("/proc cannot be read: %s", strerror(errno));
-		return false; /* cppcheck-suppress resourceLeak ; the cleanup attribute closes them */
-	}
+	int folder = open("/proc/self/cwd", O_PATH | O_CLOEXEC), fault = errno;
 	is_in_groups = is_of_groups(folder, "/proc/self/cwd");
+	close_at(&folder);
+	cleanup_directory DIR *all = folder < 0 ? NULL : opendir("/proc/self/fd");
+	if (!all) {
+		say("/proc cannot be read: %s", strerror(folder < 0 ? fault : errno));
+		return false;
+	}
 	while ((entry = readdir(all))) {
 		int fd = entry->d_name[0] == '.' ? -1 : (int)strtol(entry->d_name, NULL, 10);
 		snprintf(link, sizeof link, "/proc/self/fd/%d", fd);
-		/* The two that this function has opened itself are left out. */
-		if (fd < 0 || fd == folder || fd == dirfd(all) || !is_of_groups(fd, link))
-			continue;
-		if (!let_go(fd, "in the machine's own cgroups, which a run does not have"))
+		if (fd >= 0 && is_of_groups(fd, link) && !let_go(fd, "in the machine's own cgroups, which a run does not have"))
 			return false;
 	}
 	return true;

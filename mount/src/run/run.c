@@ -56,13 +56,13 @@ static void keep_signals(void)
 	signal(SIGCHLD, SIG_DFL);
 }
 
-/* All are blocked until the end: what came meanwhile then does what it would have done. */
-static void give_signals(void)
+/* All are blocked from before until the program begins: what came meanwhile then does what it would have done. An action that ignores
+   a signal drops one that waits, so the actions come before the supervisor passes any on. */
+static void give_actions(void)
 {
 	/* as above, but for SIGKILL and SIGSTOP */
 	for (int each = 1; each <= SIGNALS; each++)
 		(void)signal_action(each, &found[each], NULL);
-	sigprocmask(SIG_SETMASK, &found_blocked, NULL);
 }
 
 /* ---------------------------------------------------------------- the process that serves the mount */
@@ -119,6 +119,7 @@ static void become(char **program, int control, const struct wishes *wishes, pid
 		_exit(1);
 	if (!run_namespaces_enter_below(wishes) || !inherited_files_enter())
 		_exit(REFUSED_HERE);
+	give_actions();
 	if (write(control, "", 1) != 1 || read(control, &go, 1) != 1)
 		_exit(1);
 	prctl(PR_SET_PDEATHSIG, 0, 0, 0, 0); /* it cannot fail. From now on it ends with its tracer */
@@ -128,7 +129,7 @@ static void become(char **program, int control, const struct wishes *wishes, pid
 	close(listener);
 	if (read(control, &go, 1) != 1)
 		_exit(1);
-	give_signals();
+	sigprocmask(SIG_SETMASK, &found_blocked, NULL); /* it cannot fail */
 	run_namespaces_give_up_rights();
 	int fault = execute(program[0], program);
 	say("%s: %s", program[0], strerror(fault));
@@ -226,7 +227,7 @@ static int supervise(char **program, const struct wishes *wishes, int signals, i
 	sigset_t all, held;
 	/* these cannot fail: the signals exist */
 	sigfillset(&all);
-	/* until the program has the caller's actions (give_signals), none may end it or be lost */
+	/* until the program begins (become), none may end it or be lost */
 	sigprocmask(SIG_BLOCK, &all, &held);
 	pid_t self = getpid(), pid = fork();
 	if (pid == 0) {

@@ -22,14 +22,8 @@ enum { MAP_SIZE = 4096, TWO_LINES = 80 };
 /* One write: the kernel takes a map only as a whole. */
 static bool put(const char *file, const char *text)
 {
-	int fd = open(file, O_WRONLY | O_CLOEXEC);
-	if (fd < 0)
-		return false;
-	bool done = write(fd, text, strlen(text)) == (ssize_t)strlen(text);
-	int fault = errno;
-	close(fd);
-	errno = fault;
-	return done;
+	cleanup_fd int fd = open(file, O_WRONLY | O_CLOEXEC);
+	return fd >= 0 && write(fd, text, strlen(text)) == (ssize_t)strlen(text);
 }
 
 /* With the map of one user, which a process writes for itself; the numbers are read before it has

@@ -45,7 +45,7 @@ struct where {
 static bool find_where(const char *path, struct where *out)
 {
 	size_t n = sizeof control_directory - 1;
-	if (!look.marked || path[0] != '/' || strncmp(path + 1, control_directory, n) || path[n + 1] != '.')
+	if (!look.marked || strncmp(path + 1, control_directory, n) || path[n + 1] != '.')
 		return false;
 	char *end;
 	const char *digits = "0123456789";
@@ -102,7 +102,7 @@ bool control_has(const char *path)
 	/* A run without --control has no such directory: its program must not write exits. */
 	if (look.marked && !look.history)
 		return false;
-	return path[0] == '/' && strncmp(path + 1, control_directory, n) == 0 && (path[n + 1] == 0 || path[n + 1] == '/');
+	return strncmp(path + 1, control_directory, n) == 0 && (path[n + 1] == 0 || path[n + 1] == '/');
 }
 
 /* The path begins with the directory's name, or is that of a hidden file. */
@@ -194,7 +194,7 @@ int control_read(long file, int (*keep)(void *, const char *, size_t), void *to)
 		snprintf(text, sizeof text, "%zu\n", undo_steps_count(depth));
 		return keep(to, text, strlen(text));
 	case NEWEST:
-		return depth ? read_history(undo_steps_newest(depth), keep, to) : keep(to, "", 0);
+		return read_history(undo_steps_newest(depth), keep, to);
 	case TRACE:
 		return read_history(0, keep, to);
 	default:
@@ -282,10 +282,9 @@ static int control_exit(unsigned long pid)
 	int fault = engine_where((long)pid, group, sizeof group);
 	if (fault == -ENOMEM)
 		return fault;
-	/* Its group is read before the exit, after which it has none. */
-	bool was_there = fault == 0;
+	/* Its group is read before the exit, after which it has none. What is not there has no exit. */
 	fault = engine_line("exit %lu", pid);
-	if (fault == 0 && was_there)
+	if (fault == 0)
 		watch_above(group);
 	return fault;
 }
@@ -324,8 +323,10 @@ int control_write(long file, const char *data, size_t size)
 	/* No number means the newest operation. */
 	if (file == UNDO && count >= 0 && count <= 1)
 		return undo(count ? said[0] : 1);
-	if (file == FORGET && count == 0)
-		return engine_forget();
+	if (file == FORGET && count == 0) {
+		engine_forget();
+		return 0;
+	}
 	if (file == FORK && count == 2)
 		return control_fork(said[0], said[1]);
 	if (file == EXIT && count == 1)

@@ -1,6 +1,5 @@
 #include "server/freezer.h"
 #include "common/growing_array.h"
-#include "common/kernel.h"
 #include "engine/engine.h"
 #include "processes/members.h"
 #include "processes/process_table.h"
@@ -16,10 +15,9 @@
 /* `freezing` of each process: whether it has to stop, whether it has stopped, and whether an order about it waits. */
 enum { WANTED = 1, STOPPED = 2, ORDERED = 4 };
 
-static size_t freezing; /* groups in which 1 was written */
-static bool has_frozen; /* 1 was written once: until then no process has to stop */
 /* An eventfd; -1: a mount without a run, where no process stops. */
 static int supervisor = -1;
+static bool has_frozen; /* in a run 1 was written once: else no process has to stop */
 
 /* A process has at most one order. So the list of all needs no memory, and an order is never lost for lack of it. */
 static pid_t first_order, last_order;
@@ -36,10 +34,9 @@ bool freezer_begin(int *wake)
 
 /* ---------------------------------------------------------------- groups */
 
-/* Most mounts freeze nothing: then no group is looked up. */
 static bool freezes_itself(const char *group)
 {
-	const struct group_state *r = freezing ? group_state_find(group) : NULL;
+	const struct group_state *r = group_state_find(group);
 	return r && r->freezes;
 }
 
@@ -48,7 +45,7 @@ static bool is_to_freeze(const char *group)
 {
 	char at[PATH_MAX_SAID];
 	snprintf(at, sizeof at, "%s", group);
-	for (; freezing && !is_root(at); go_up(at))
+	for (; !is_root(at); go_up(at))
 		if (freezes_itself(at))
 			return true;
 	return false;
@@ -59,7 +56,7 @@ static bool is_to_freeze(const char *group)
 static int runs(pid_t pid, const char *group)
 {
 	(void)group;
-	return !is_pid(pid) || !(process_at(pid)->freezing & STOPPED);
+	return !(process_at(pid)->freezing & STOPPED);
 }
 
 /* 1, 0 or -errno */
@@ -68,7 +65,7 @@ static int is_frozen(const char *group)
 	if (!is_to_freeze(group))
 		return 0;
 	/* An empty group is frozen at once, as in the kernel. */
-	int running = supervisor < 0 ? 0 : members_each(group, false, runs);
+	int running = has_frozen ? members_each(group, false, runs) : 0;
 	return running < 0 ? running : !running;
 }
 
@@ -82,18 +79,16 @@ int freezer_show(const char *group, const struct file *file, char out[TEXT_ROOM]
 
 int freezer_text(const char *group, const struct file *file, const char **text, size_t size)
 {
-	/* With the lock. The engine's text always says `frozen 0`, which is as long as what replaces
-	   it. */
+	/* With the lock. The last line of the engine's text always says `frozen 0`. It is copied first: to look at processes needs
+	   the engine's other texts. */
 	static char own[64];
-	if (!freezing || strcmp(file->name, "cgroup.events") != 0 || size >= sizeof own)
+	if (strcmp(file->name, "cgroup.events") != 0)
 		return 0;
 	memcpy(own, *text, size);
-	own[size] = 0;
 	*text = own;
-	char *line = strstr(own, "frozen 0\n");
-	int frozen = line ? is_frozen(group) : 0;
+	int frozen = is_frozen(group);
 	if (frozen > 0)
-		line[strlen("frozen ")] = '1';
+		own[size - 2] = '1'; /* before its line feed */
 	return frozen < 0 ? frozen : 0;
 }
 
@@ -112,20 +107,17 @@ static void add_order(pid_t pid)
 	last_order = pid;
 }
 
-/* A process that does not have to stop has not stopped. */
+/* Only where it changes: then the process has not stopped yet, or is about to run again. An order about it stays. */
 static void set_wanted(pid_t pid, bool stops)
 {
 	struct process *p = process_at(pid);
-	if (stops)
-		p->freezing |= WANTED;
-	else
-		p->freezing &= (unsigned char)~(WANTED | STOPPED);
+	p->freezing = (unsigned char)((p->freezing & ORDERED) | (stops ? WANTED : 0));
 }
 
 /* An order only where something changes. */
 static void want(pid_t pid, bool to_freeze)
 {
-	if (!is_pid(pid) || to_freeze == !!(process_at(pid)->freezing & WANTED))
+	if (to_freeze == !!(process_at(pid)->freezing & WANTED))
 		return;
 	add_order(pid);
 	set_wanted(pid, to_freeze);
@@ -140,18 +132,15 @@ static void wake(void)
 	}
 }
 
-/* The oldest order first. The supervisor asks until there is none. */
-bool freezer_order(pid_t *pid, bool *stop)
+/* The oldest order first. The supervisor asks until there is none: then it is about nobody, whose entry is empty. */
+void freezer_order(pid_t *pid, bool *stop)
 {
 	WANTS_LOCK();
-	if (!first_order)
-		return false;
 	struct process *p = process_at(first_order);
 	*pid = first_order;
 	first_order = p->next_order;
 	p->freezing &= (unsigned char)~ORDERED;
 	*stop = p->freezing & WANTED;
-	return true;
 }
 
 /* What to order: all of it is known before anything changes. */
@@ -175,7 +164,7 @@ static int note(pid_t pid, const char *group)
    listed, which may find no memory, and then they are ordered, which cannot fail. */
 static int order_all(const char *top)
 {
-	if (supervisor < 0 || !has_frozen)
+	if (!has_frozen)
 		return 0;
 	changes_count = 0;
 	int fault = members_each(top, false, note);
@@ -203,21 +192,13 @@ void freezer_catch_up(void)
 void freezer_moved(pid_t pid, const char *group)
 {
 	WANTS_LOCK();
-	if (supervisor < 0)
+	if (!has_frozen)
 		return;
 	want(pid, is_to_freeze(group));
 	wake();
 }
 
 /* ---------------------------------------------------------------- events */
-
-static void set(struct group_state *r, bool freezes)
-{
-	freezing += freezes;
-	freezing -= r->freezes;
-	has_frozen |= freezes;
-	r->freezes = freezes;
-}
 
 /* 0 or -errno. The write returns before the processes have stopped: the supervisor stops them. */
 int freezer_write(const char *group, const struct file *file, const char *data, size_t size)
@@ -228,47 +209,40 @@ int freezer_write(const char *group, const struct file *file, const char *data, 
 	struct group_state *r = fault ? NULL : group_state_make(group);
 	if (!r)
 		return fault ? fault : -ENOMEM;
-	bool freezes = said[0] == '1', differs = r->freezes != freezes;
+	bool before = r->freezes;
 	/* First, since order_all asks for it. If that fails, it is set back. */
-	set(r, freezes);
-	if (differs && (fault = order_all(group)))
-		set(r, !freezes);
-	if (differs && fault == 0)
+	r->freezes = said[0] == '1';
+	has_frozen |= r->freezes && supervisor >= 0;
+	fault = order_all(group);
+	if (fault)
+		r->freezes = before;
+	else
 		watch_below(group);
 	return fault;
-}
-
-void freezer_forget(struct group_state *r)
-{
-	WANTS_LOCK();
-	set(r, false);
 }
 
 bool freezer_born(pid_t pid, const char *group)
 {
 	WANTS_LOCK();
-	if (!is_pid(pid))
-		return false;
 	bool stops = is_to_freeze(group);
 	/* No order follows: the supervisor gets the answer with that of its question. */
 	set_wanted(pid, stops);
 	return stops;
 }
 
-/* The next process of this number has not stopped. */
+/* An order that is left does not stop the next process of this number. */
 void freezer_gone(pid_t pid)
 {
 	WANTS_LOCK();
-	if (is_pid(pid))
-		set_wanted(pid, false);
+	set_wanted(pid, false);
 }
 
 void freezer_told(pid_t pid, bool stopped)
 {
 	WANTS_LOCK();
-	struct process *p = is_pid(pid) ? process_at(pid) : NULL;
+	struct process *p = process_at(pid);
 	/* A late message: meanwhile the process was thawed. */
-	if (!p || (stopped && !(p->freezing & WANTED)))
+	if (stopped && !(p->freezing & WANTED))
 		return;
 	p->freezing = (unsigned char)(stopped ? p->freezing | STOPPED : p->freezing & ~STOPPED);
 	/* The line `frozen` of its group, or of one above, may have changed. */

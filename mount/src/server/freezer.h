@@ -14,8 +14,6 @@ int freezer_show(const char *group, const struct file *file, char out[TEXT_ROOM]
 int freezer_write(const char *group, const struct file *file, const char *data, size_t size);
 /* The text of a file, with the current line `frozen`. 0, or -errno if that can't be known. */
 int freezer_text(const char *group, const struct file *file, const char **text, size_t size);
-/* The group is being removed: it has no processes. */
-void freezer_forget(struct group_state *r);
 
 /* A process is now in this group. */
 void freezer_moved(pid_t pid, const char *group);
@@ -29,7 +27,7 @@ bool freezer_born(pid_t pid, const char *group);
 void freezer_gone(pid_t pid);
 /* All threads of a process have stopped, or run again. */
 void freezer_told(pid_t pid, bool stopped);
-/* The next order: a process that has to stop or to continue. False if there is none. */
-bool freezer_order(pid_t *pid, bool *stop);
+/* The next order: a process that has to stop or to continue; 0: there is none. */
+void freezer_order(pid_t *pid, bool *stop);
 
 #endif

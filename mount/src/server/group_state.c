@@ -1,7 +1,6 @@
 #include "server/group_state.h"
 #include "engine/engine.h"
 #include "server/attributes.h"
-#include "server/freezer.h"
 #include "server/open_files.h"
 #include "server/owner.h"
 #include "server/watch.h"
@@ -120,7 +119,6 @@ void group_state_lose(const char *group)
 	open_files_lose(r);
 	watch_forget(r);
 	values_forget(r, ~0U);
-	freezer_forget(r);
 	tdelete(r, &paths, by_path);
 	r->gone = true;
 	group_state_tidy(r);

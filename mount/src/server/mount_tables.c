@@ -55,8 +55,9 @@ static void drop(struct table **at)
    too. Each table has two. */
 static bool has_room(void)
 {
-	struct rlimit most;
-	return getrlimit(RLIMIT_NOFILE, &most) == 0 && 2 * count < most.rlim_cur / SHARE;
+	struct rlimit most = { 0 };
+	getrlimit(RLIMIT_NOFILE, &most); /* it cannot fail: there is such a limit */
+	return 2 * count < most.rlim_cur / SHARE;
 }
 
 static void take_given(void)
@@ -99,8 +100,7 @@ static struct table **find(long number)
 static struct table *get(long number, int *fault)
 {
 	WANTS_LOCK();
-	if (!*find(number))
-		take_given();
+	take_given();
 	struct table *t = *find(number);
 	*fault = t ? 0 : refused.number == number ? refused.fault : -ENOENT;
 	return t;

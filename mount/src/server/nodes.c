@@ -97,7 +97,6 @@ static int find_group(const char *path, struct node *out)
 int nodes_find_above(const struct node *node, struct node *out)
 {
 	char path[PATH_MAX_SAID];
-	WANTS_LOCK();
 	snprintf(path, sizeof path, "%s", node->group ? node->group->path : "/");
 	go_up(path);
 	*out = (struct node){ .group = group_state_make(path) };
@@ -148,7 +147,6 @@ void nodes_known(const struct node *node)
 void nodes_forget(uint64_t number, uint64_t count)
 {
 	struct node node;
-	WANTS_LOCK();
 	/* The control directory is there for as long as the mount, and is not counted. */
 	if (nodes_find(number, &node) || !node.group)
 		return;

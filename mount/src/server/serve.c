@@ -210,8 +210,6 @@ int serve(const char *where, void (*ready)(void))
 		watch_mounted(where);
 	when_ready = ready;
 	int ended = answer(session), fault = errno;
-	/* Before the unmount: the companion keeps the mount in use as long as it handles a change. */
-	watch_stop();
 	mount_tables_end();
 	fuse_session_unmount(session);
 	fuse_session_destroy(session);

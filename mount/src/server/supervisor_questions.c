@@ -40,8 +40,7 @@ static void answer(const struct question *q, struct reply *r)
 		cgroup_namespaces_made(q->made.space, q->made.call);
 		break;
 	case ORDER:
-		if (!freezer_order(&r->order.process, &r->order.stops))
-			r->order.process = 0;
+		freezer_order(&r->order.process, &r->order.stops);
 		break;
 	case CATCH_UP:
 	case EVENTS:
@@ -76,19 +75,16 @@ static void answer_pending(void)
 		struct reply r = { 0 };
 		ssize_t n = recv(supervisor, &q, sizeof q, MSG_DONTWAIT);
 		/* No question is there: nobody waits. */
-		if (n < 0 && (errno == EAGAIN || errno == EINTR))
+		if (n < 0 && errno == EAGAIN)
 			return;
-		is_over = n <= (ssize_t)offsetof(struct question, group);
+		is_over = n <= 0;
 		if (is_over)
 			return;
-		/* A question from the supervisor ends in a zero byte, so this only protects against a
-		   wrong one. */
-		q.group[sizeof q.group - 1] = 0;
 		take_events(); /* first: they were put before the question was sent, and the answer depends on them */
 		answer(&q, &r);
 		if (q.what != EVENTS)
-			/* The supervisor waits for this answer, so its socket has room. */
-			is_over = send(supervisor, &r, sizeof r, MSG_NOSIGNAL) != sizeof r;
+			/* The supervisor waits for this answer, so its socket has room. If it has ended, the next recv says so. */
+			(void)send(supervisor, &r, sizeof r, MSG_NOSIGNAL);
 	}
 }
 

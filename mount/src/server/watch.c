@@ -9,7 +9,6 @@
 #include <stdio.h>
 #include <stdlib.h>
 #include <string.h>
-#include <sys/socket.h>
 #include <unistd.h>
 
 enum { TEXT_MAX = 40, PATH_SIZE = PATH_MAX_SAID + 32 };
@@ -30,8 +29,7 @@ struct watched {
    first. */
 static struct watched *queue, **queue_end = &queue;
 static pthread_mutex_t queue_lock = PTHREAD_MUTEX_INITIALIZER;
-static pthread_cond_t waited = PTHREAD_COND_INITIALIZER; /* the thread no longer waits */
-static bool waits, stopping;
+static bool waits;
 static struct companion companion = { -1, -1 };
 
 /* If the text cannot be read, it is empty. No text is: so whoever waits is woken now or at the next change, and reads. */
@@ -84,21 +82,19 @@ static void take_first(void)
 		queue_end = &queue;
 }
 
-/* The thread that waits for the companion. It has no lock meanwhile, and ends with the queue. */
+/* The thread that waits for the companion. It has no lock meanwhile, and ends with the queue or with the process. Once the companion
+   has ended, nobody is told any more, and the mount goes on without inotify. */
 static void *tell(void *unused)
 {
 	char path[PATH_SIZE];
 	pthread_mutex_lock(&queue_lock);
-	while (!stopping && first_path(path)) {
+	while (first_path(path)) {
 		take_first(); /* first, so that a change meanwhile puts it in the queue again */
 		pthread_mutex_unlock(&queue_lock);
-		bool is_there = companion_tell(companion.to, path);
+		companion_tell(companion.to, path);
 		pthread_mutex_lock(&queue_lock);
-		/* The companion has ended. Nobody is told any more, and the mount goes on without inotify. */
-		stopping |= !is_there;
 	}
 	waits = false;
-	pthread_cond_signal(&waited);
 	pthread_mutex_unlock(&queue_lock);
 	return unused;
 }
@@ -110,14 +106,12 @@ static void tell_all(void)
 	pthread_t thread;
 	/* While a thread waits for the companion, it also takes what is queued after that, in this
 	   order. */
-	while (!waits && first_path(path)) {
-		if (companion_tell_now(companion.to, path))
-			take_first();
-		else {
-			waits = pthread_create(&thread, NULL, tell, NULL) == 0 && pthread_detach(thread) == 0;
-			return;
-		}
-	}
+	if (waits)
+		return;
+	while (first_path(path) && companion_tell_now(companion.to, path))
+		take_first();
+	if (queue)
+		waits = pthread_create(&thread, NULL, tell, NULL) == 0 && pthread_detach(thread) == 0;
 }
 
 static void check(struct watched *w)
@@ -131,14 +125,13 @@ static void check(struct watched *w)
 	open_files_wake(w->of, w->file);
 	/* nobody waits with the queue's lock, so this thread, which has the engine's, soon goes on */
 	pthread_mutex_lock(&queue_lock);
-	if (!w->queued && !stopping) {
+	if (!w->queued) {
 		w->queued = true;
 		w->to_tell = NULL;
 		*queue_end = w;
 		queue_end = &w->to_tell;
 	}
-	if (!stopping)
-		tell_all();
+	tell_all();
 	pthread_mutex_unlock(&queue_lock);
 }
 
@@ -182,7 +175,7 @@ void watch_process(pid_t pid)
 static void unqueue(struct watched *w)
 {
 	pthread_mutex_lock(&queue_lock);
-	for (struct watched **at = &queue; w->queued && *at; at = &(*at)->to_tell)
+	for (struct watched **at = &queue; *at; at = &(*at)->to_tell)
 		if (*at == w) {
 			*at = w->to_tell;
 			if (!*at)
@@ -222,21 +215,5 @@ void watch_mounted(const char *mountpoint)
 pid_t watch_leave(void)
 {
 	close(companion.to);
-	companion.to = -1;
 	return companion.process;
-}
-
-/* The companion may be stopped, or wait for this server. So the thread that writes to it is not
-   waited for before its socket was shut. It is closed only when that thread has gone: before, the
-   number of the descriptor could become another file's while the thread writes to it. */
-void watch_stop(void)
-{
-	pthread_mutex_lock(&queue_lock);
-	stopping = true;
-	shutdown(companion.to, SHUT_WR); /* it fails only if the companion has ended */
-	while (waits)
-		pthread_cond_wait(&waited, &queue_lock);
-	pthread_mutex_unlock(&queue_lock);
-	close(companion.to);
-	companion.to = -1;
 }

@@ -14,8 +14,6 @@ bool watch_begin(const char *mountpoint, int root);
 void watch_mounted(const char *mountpoint);
 /* In the supervisor: closes its end of the companion's socket, and returns the companion. */
 pid_t watch_leave(void);
-/* Call this in the server, before the unmount. */
-void watch_stop(void);
 
 /* The rest requires the engine's lock. A notified file was looked up. 0 or -ENOMEM */
 int watch_seen(const char *group, const struct file *file);

@@ -26,7 +26,6 @@ struct birth {
 	pid_t process, child; /* the child's number is known once it is told */
 	bool is_thread, reads, reserved, told, runs; /* runs: the call is being made */
 	bool was_clone3;
-	bool stops_at_exec; /* its creator does */
 	bool makes_space; /* a cgroup namespace that the server does not know yet */
 	int fault; /* if told: the errno that the call returns instead of a child */
 	unsigned reservation;
@@ -36,9 +35,10 @@ struct birth {
 };
 
 /* Each birth has the place of its ticket modulo PLACES. Tickets count on, so each place is written in turn, and takes
-   its memory then: half a megabyte after PLACES births. */
+   its memory then: half a megabyte after PLACES births. The first tickets have the last places, so that most runs pass
+   the end of the table. */
 static struct birth *births[PLACES];
-static unsigned last_ticket; /* half of a register: the other half says whether the call was a clone3 */
+static unsigned last_ticket = PLACES - 10; /* half of a register: the other half says whether the call was a clone3 */
 /* The earliest given_up_at of those without a creator, or earlier; 0: there is none. */
 static long long next_look;
 static bool counts_threads;
@@ -62,7 +62,6 @@ static struct birth *begin(struct thread *t)
 	b->ticket = last_ticket;
 	b->creator = t;
 	b->process = t->process;
-	b->stops_at_exec = t->stops_at_exec;
 	births[b->ticket % PLACES] = b;
 	t->makes = b;
 	return b;
@@ -263,7 +262,6 @@ static struct thread *settle(struct birth *b, pid_t child)
 	}
 	if (t) {
 		t->made_by = b;
-		t->stops_at_exec = b->stops_at_exec;
 		t->frozen |= frozen;
 		t->counted |= !b->is_thread && fault == 0;
 		/* Now the namespace exists, and the child, which is stopped, shows its number. */
@@ -336,7 +334,7 @@ struct thread *births_appeared(pid_t child)
 	}
 	tracee_restore(child, &here, &b->before);
 	if (b->is_thread)
-		tracee_stop_at_exec(t);
+		tracee_stop_at_exec(child);
 	t->started = true;
 	t->made_by = NULL;
 	end_if_over(b);

@@ -172,10 +172,10 @@ bool filter_is_added(long call, const uint64_t args[6])
 
 /* ---------------------------------------------------------------- the strict mode */
 
-/* The kernel takes an int as the first argument of both, and as the flags: what is above is not looked at. */
+/* The kernel takes an int as the first argument of seccomp, and as its flags: what is above is not looked at. */
 int filter_wants_strict(long call, const uint64_t args[6])
 {
-	if (call == SYS_prctl && ((unsigned)args[0] != PR_SET_SECCOMP || args[1] != SECCOMP_MODE_STRICT))
+	if (call == SYS_prctl && args[1] != SECCOMP_MODE_STRICT)
 		return 1;
 	if (call == SYS_seccomp && (unsigned)args[0] != SECCOMP_SET_MODE_STRICT)
 		return 1;

@@ -7,7 +7,6 @@
 #include <stdint.h>
 #include <sys/ptrace.h>
 #include <sys/wait.h>
-#include <time.h>
 #include <unistd.h>
 
 /* At most ORDERS are handled before anything else, since the program decides how many there are.
@@ -97,9 +96,7 @@ int frozen_threads_look_again(void)
 	static long long looked_at;
 	if (undecided == 0)
 		return -1;
-	struct timespec t;
-	clock_gettime(CLOCK_MONOTONIC, &t); /* cannot fail: there is such a clock */
-	long long now = t.tv_sec * 1000LL + t.tv_nsec / 1000000;
+	long long now = milliseconds();
 	if (now - looked_at >= AGAIN) {
 		looked_at = now;
 		for (struct thread *each = threads_all(); each; each = each->next)

@@ -27,9 +27,10 @@ static int signal_that_stopped(const struct thread *first)
 /* Whether the parent is a shell that waits for stopped jobs: the kernel, too, stops nothing for a terminal where there is none. */
 static bool is_job_of_shell(void)
 {
-	/* A shell with job control has the same session and another process group. */
+	/* A shell with job control has the same session and another process group. 0, a parent of another PID namespace, means
+	   this process itself. */
 	pid_t parent = getppid();
-	return parent > 0 && getsid(parent) == getsid(0) && getpgid(parent) != getpgrp();
+	return getsid(parent) == getsid(0) && getpgid(parent) != getpgrp();
 }
 
 /* Where nobody may know of the stop, another process of the run may be about to continue the first one, and then is not stopped. */

@@ -22,7 +22,6 @@ struct thread {
 	struct birth *makes; /* the call by which it is making a child */
 	struct birth *made_by; /* until it has left its first stop */
 	bool frozen; /* it stays at its next stop */
-	bool stops_at_exec; /* and so does all that it makes */
 	bool unshares; /* it asks for a cgroup namespace */
 	bool asks_strict; /* for the strict mode of seccomp, and waits for the answer */
 	bool strict; /* it has entered that mode */

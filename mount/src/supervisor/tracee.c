@@ -56,10 +56,9 @@ void tracee_restore(pid_t thread, const struct registers *now, const struct regi
 }
 
 /* The kernel gives these options to all that the thread makes. */
-void tracee_stop_at_exec(struct thread *t)
+void tracee_stop_at_exec(pid_t thread)
 {
-	if (!t->stops_at_exec && ptrace(PTRACE_SETOPTIONS, t->id, 0, always | PTRACE_O_TRACEEXEC) == 0)
-		t->stops_at_exec = true;
+	(void)ptrace(PTRACE_SETOPTIONS, thread, 0, always | PTRACE_O_TRACEEXEC); /* as above */
 }
 
 /* LISTEN leaves it stopped, and reports its SIGCONT as a stop. */

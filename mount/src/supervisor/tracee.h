@@ -10,7 +10,7 @@
 /* A process is traced from now on, with all that it makes. False with errno. */
 bool tracee_attach(pid_t process);
 /* A thread, at a stop, also stops after an execve, and so does all that it makes. */
-void tracee_stop_at_exec(struct thread *t);
+void tracee_stop_at_exec(pid_t thread);
 /* It runs until its next stop. `signal` is delivered to it; 0 is none. A thread in strict mode also stops at each call. */
 void tracee_run(pid_t thread, int signal);
 /* It runs until the end of the call that it is about to make, or is in. */

@@ -119,7 +119,7 @@ static void on_vfork_done(struct thread *t)
 		tracee_run(t->id, 0);
 }
 
-/* The caller was not the first thread, or a thread that was not the first has made it (stops_at_exec). All other threads of the
+/* The caller was not the first thread, or a thread that was not the first has made it (tracee_stop_at_exec). All other threads of the
    process have been killed. If it was not the first, it has the first one's number from now on. The first thread, whatever it was
    doing, no longer exists, and its death is not reported. */
 static void on_exec(struct thread *t)
@@ -130,8 +130,6 @@ static void on_exec(struct thread *t)
 	struct thread *other = former == t->id ? NULL : threads_find(former);
 	if (other) {
 		t->strict = other->strict;
-		births_abandon(other);
-		frozen_threads_forget(other);
 		leaves(other);
 		threads_drop(other);
 	}

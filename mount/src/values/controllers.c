@@ -11,7 +11,7 @@
 
 /* Threads of one process could be in different groups of these controllers: a group with processes may enable them for its
    children. */
-enum { ALL = HAS_CPUSET | HAS_CPU | HAS_IO | HAS_MEMORY | HAS_PIDS, FOR_THREADS = HAS_CPUSET | HAS_CPU | HAS_PIDS };
+enum { FOR_THREADS = HAS_CPUSET | HAS_CPU | HAS_PIDS };
 
 static const struct {
 	const char *name;
@@ -66,7 +66,7 @@ static unsigned subtree_of(const char *group)
 static unsigned available(const char *group)
 {
 	char above[PATH_MAX_SAID];
-	if (!kept || is_root(group))
+	if (is_root(group))
 		return kept | HAS_PIDS;
 	snprintf(above, sizeof above, "%s", group);
 	go_up(above);
@@ -114,10 +114,9 @@ static int each_of(const char *group, const char *children, size_t count, int (*
 	char child[PATH_MAX_SAID];
 	int answer = 0;
 	for (; answer == 0 && count--; children += strlen(children) + 1) {
-		int n = snprintf(child, sizeof child, "%s/%s", is_root(group) ? "" : group, children);
 		/* A child's path always fits: the engine refuses longer ones. */
-		if (n > 0 && (size_t)n < sizeof child)
-			answer = ask(child, which);
+		snprintf(child, sizeof child, "%s/%s", is_root(group) ? "" : group, children);
+		answer = ask(child, which);
 	}
 	return answer;
 }

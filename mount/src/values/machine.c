@@ -51,7 +51,6 @@ static bool read_disks(void)
 	cleanup_directory DIR *all = opendir("/sys/dev/block");
 	/* Without the directory the machine has no device. */
 	while (all && added && (entry = readdir(all))) {
-		end = 0;
 		if (sscanf(entry->d_name, "%u:%u%n", &d.major, &d.minor, &end) != 2 || entry->d_name[end])
 			continue;
 		snprintf(path, sizeof path, "%s/partition", entry->d_name);

@@ -1,5 +1,6 @@
 #include "values/number_ranges.h"
 #include <errno.h>
+#include <number_parser.h>
 #include <stdio.h>
 #include <string.h>
 
@@ -7,12 +8,6 @@
 static bool has(const struct number_ranges *l, unsigned n)
 {
 	return n < NUMBER_RANGES_MAX && l->bits[n / 8] & (1U << n % 8);
-}
-
-/* As the kernel's isspace: line feeds separate too. */
-static bool is_blank(char c)
-{
-	return c == ' ' || (c >= '\t' && c <= '\r');
 }
 
 /* ---------------------------------------------------------------- reading */
@@ -44,7 +39,7 @@ static const char *take_number(const char *at, unsigned bits, unsigned *out, int
 /* A region ends at a comma, a blank or the end of the text. */
 static bool is_end(char c)
 {
-	return c == 0 || c == ',' || is_blank(c);
+	return c == 0 || c == ',' || is_space(c);
 }
 
 /* As the kernel reads one, with the same errnos. */
@@ -97,7 +92,7 @@ int number_ranges_read(const char *text, unsigned bits, struct number_ranges *ou
 	/* Regions may have several commas and blanks between them, or none at all. */
 	for (;;) {
 		struct region r;
-		while (*text == ',' || is_blank(*text))
+		while (*text == ',' || is_space(*text))
 			text++;
 		if (*text == 0)
 			return 0;

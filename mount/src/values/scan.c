@@ -37,8 +37,8 @@ unsigned long long scan_memory(const char *text, const char **end)
 	bool wraps = false;
 	unsigned base = parse_base(&text);
 	text += parse_digits(text, base, &n, &wraps);
-	/* 0x20 makes a letter a small one. */
-	const char *scale = *text ? strchr(scales, *text | 0x20) : NULL;
+	/* 0x20 makes a letter a small one, and the end of the text a blank. */
+	const char *scale = strchr(scales, *text | 0x20);
 	if (scale) {
 		n <<= 10 * (unsigned)(scale - scales + 1);
 		text++;

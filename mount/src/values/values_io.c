@@ -21,7 +21,7 @@ static int take_device(const char **at, char device[32])
 	if (!scan_decimal(at, &major) || **at != ':')
 		return -EINVAL;
 	++*at;
-	if (!scan_decimal(at, &minor) || !(**at == ' ' || (**at >= '\t' && **at <= '\r')))
+	if (!scan_decimal(at, &minor) || !is_space(**at))
 		return -EINVAL;
 	snprintf(device, 32, "%u:%u", (unsigned)major, (unsigned)minor);
 	return machine_has_disk((unsigned)major, (unsigned)minor) ? 0 : -ENODEV;
@@ -61,14 +61,13 @@ static unsigned long long greatest(int rate)
 	return rate < 2 ? ULLONG_MAX : UINT_MAX;
 }
 
-/* Rates that a line does not name have no limit. */
+/* A line has all four rates, so those of the lines behind it are not looked at. Without a line there is no limit. */
 static void read_rates(const char *line, unsigned long long rates[RATES])
 {
 	for (int i = 0; i < RATES; i++) {
-		const char *found = *line ? strstr(line, rate_names[i]) : NULL;
-		rates[i] = greatest(i);
-		if (found && (found += strlen(rate_names[i]) + 1) && *found != 'm')
-			rates[i] = strtoull(found, NULL, 10);
+		const char *found = strstr(line, rate_names[i]);
+		size_t name = strlen(rate_names[i]) + 1;
+		rates[i] = found && found[name] != 'm' ? strtoull(found + name, NULL, 10) : greatest(i);
 	}
 }
 
@@ -125,9 +124,7 @@ int io_take_max(const char *group, const struct file *file, const char *said, ch
 	int fault = take_device(&at, device);
 	if (fault)
 		return fault;
-	snprintf(line, sizeof line, "%s", find_line(kept, device, &size));
-	line[size] = 0;
-	read_rates(line, rates);
+	read_rates(find_line(kept, device, &size), rates);
 	/* Nothing is stored before the last word was accepted. */
 	while (scan_word(&at, word, sizeof word))
 		if ((fault = take_rate(word, rates)))
@@ -163,7 +160,8 @@ int io_take_weight(const char *group, const struct file *file, const char *said,
 	int fault = take_device(&at, device);
 	if (fault)
 		return fault;
-	at += strspn(at, " \t\n");
+	while (is_space(*at))
+		at++;
 	if (strncmp(at, "default", 7) != 0) {
 		if (take_weight(at, &n))
 			return -EINVAL;
