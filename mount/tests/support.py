@@ -3,6 +3,7 @@ import ctypes
 import errno
 import os
 import re
+import resource
 import shutil
 import signal
 import subprocess
@@ -125,11 +126,10 @@ class Mount:
         self.said = open(os.path.join(self.home, "said"), "w+")
         os.mkdir(self.at)
         options = (*options, "--control") if control and "--control" not in options else options
-        before = (
-            (lambda: __import__("resource").setrlimit(__import__("resource").RLIMIT_FSIZE, limit)) if limit else None
-        )
+        before = (lambda: resource.setrlimit(resource.RLIMIT_FSIZE, limit)) if limit else None
         self.process = subprocess.Popen(
             [PROGRAM, "mount", self.at, "--foreground", "--trace", self.trace, "--answers", self.answers, *options],
+            stdout=self.said,  # else who reads what a test says would wait for a mount that the test has left
             stderr=self.said,
             preexec_fn=before,
             env=dict(os.environ, LD_PRELOAD=preload) if preload else None,
@@ -177,6 +177,12 @@ class Mount:
         if replayed:
             step("cgreplay gives the same answers (%d lines)" % sum(1 for _ in open(self.trace)), self.replay())
         shutil.rmtree(self.home)
+
+
+def limit_of(m, size):
+    """No file that the process of this mount writes has more bytes from now on; None: no limit."""
+    hard = resource.prlimit(m.process.pid, resource.RLIMIT_FSIZE)[1]
+    resource.prlimit(m.process.pid, resource.RLIMIT_FSIZE, (hard if size is None else size, hard))
 
 
 libc = ctypes.CDLL(None, use_errno=True)

@@ -94,6 +94,35 @@ def helped(text):
         same("%s says what it is about" % option, lacks, [])
     end = " ".join(lines[max(i for i, line in enumerate(lines) if line.startswith("The status")) :])
     same("the status of run", re.findall(r"\d+", end), ["128", "127", "126", "2"])
+    whole = " ".join(text.split())
+    for phrase in (
+        "makhloeum mount DIR [",
+        "[--] PROGRAM ARGS.. makhloeum view TRACE [-o PAGE.html] makhloeum tree DIR [--watch] makhloeum check DIR makhloeum --version",
+        "on the directory DIR, as a cgroup2 file system. A process is only a number",
+        "returns once the mount is in place. fusermount3 -u DIR unmounts it; so does killing the server.",
+        "run mounts a hierarchy on /sys/fs/cgroup in its own namespaces",
+        "When it ends, the processes that it left behind are killed. No privileges are needed.",
+        "view makes a page of a run from its trace. tree shows the groups of a directory. check compares a directory with the engine.",
+        "These three are separate programs: makhloeum NAME starts makhloeum-NAME.",
+        "write each line that the engine gets to FILE, with its time: `cgreplay < FILE` gives the same answers",
+        "write these answers to FILE",
+        "files that clients look for and the engine does not have (run always has them). cgroup.freeze freezes, cgroup.threads lists;",
+        "the others are constant: cgroup.controllers and cgroup.subtree_control `pids`, cgroup.type `domain`, cpu.stat all 0.",
+        "cgroup.subtree_control accepts +pids, and cgroup.type domain; any other value is EOPNOTSUPP",
+        "the files of these controllers (memory, cpu, io, cpuset, with commas between), and of --extra.",
+        "check a value as the kernel does, store it and return it, but limit nothing; their counters are 0.",
+        "cgroup.subtree_control then turns controllers on and off, pids too",
+        "written to cgroup.procs is a real one: the hierarchy follows its exit and its children, and cgroup.kill kills it",
+        "undo (an empty line undoes the newest command, N the newest N), forget, depth, newest, trace, fork (PARENT CHILD), exit (PID).",
+        "Without this option a mount has only fork and exit, a run has no such directory, and neither keeps a history",
+        "mount stays in the foreground",
+        "PROGRAM is root in its user namespace",
+        "all users and groups of the caller, who must be root on the machine or in a user namespace",
+        "threads are not counted: a process is 1 in pids.current, whatever threads it has",
+        "that of PROGRAM, or 128 plus the signal that ended it. It is 127 if PROGRAM is not found, 126 if it cannot be executed,",
+        "and 2 for a bad command line, or if the machine does not allow what is needed; one sentence then names it.",
+    ):
+        step("the help says: %.40s.." % phrase, phrase in whole, whole)
 
 
 def options():
@@ -146,6 +175,8 @@ def options():
         same("makhloeum %s" % " ".join(words), ran(*words), (2, "", BAD))
     status, text, said = ran("--help")
     same("--help", (status, said, ran("-h")), (0, "", (0, text, "")))
+    of_options = [line for line in text.split("\n") if line.startswith("  ")]
+    same("lines that leave their columns", [it for it in of_options if it[17] != " " or "  " in it[18:] + it[18]], [])
     helped(text)
     for (
         option
@@ -275,6 +306,14 @@ shift; exec "$@" """
         said = "makhloeum: this machine does not allow FUSE: /dev/fuse: %s\n" % why
         same("%s, /dev/fuse made by %s" % (start[0], makes), got, (2, "", said))
         shutil.rmtree(os.path.join(HOME, "dev"))
+    for start in (("mount", at), ("run", "true")):
+        script = 'mount -t tmpfs none /dev && exec "$@"'
+        got = ran("-Urm", "sh", "-c", script, "sh", PROGRAM, *start, program="unshare")
+        same(
+            "%s without /dev/null" % start[0],
+            got,
+            (2, "", "makhloeum: /dev/null cannot be opened: No such file or directory\n"),
+        )
     file = os.path.join(HOME, "file")
     open(file, "w").close()
     missing = "%s: No such file or directory"

@@ -3,7 +3,6 @@ import fcntl
 import os
 import pty
 import re
-import resource
 import shutil
 import socket
 import stat
@@ -14,8 +13,8 @@ import time
 import tty
 
 sys.path.insert(0, os.path.dirname(os.path.dirname(os.path.realpath(__file__))))
-from support import CGREPLAY, CGSHELL, PATIENCE, PROGRAM, Beside, Mount, error_of, finish, read, same, status_within
-from support import TRACE_MAX, step, until, write
+from support import CGREPLAY, CGSHELL, PATIENCE, PROGRAM, Beside, Mount, error_of, finish, limit_of, read, same
+from support import TRACE_MAX, status_within, step, until, write
 
 ME = os.path.realpath(__file__)
 PATIENT = os.path.join(os.path.dirname(PROGRAM), "patient.so")  # only with the plain build
@@ -64,10 +63,12 @@ def targets():
     sealed = os.memfd_create("sealed", os.MFD_ALLOW_SEALING)
     os.write(sealed, b"precious")
     fcntl.fcntl(sealed, 1033, 2)  # F_ADD_SEALS, F_SEAL_SHRINK
-    for option in ("--trace", "--answers"):
-        status, words = refused([at, option, "/proc/self/fd/%d" % sealed], (sealed,))
+    new = os.path.join(home, "made")
+    for option, other in (("--trace", "--answers"), ("--answers", "--trace")):
+        status, words = refused([at, option, "/proc/self/fd/%d" % sealed, other, new], (sealed,))
         told = "makhloeum: /proc/self/fd/%d cannot be emptied: Operation not permitted\n" % sealed
         same("%s in a file that cannot be emptied" % option, (status, words), (2, told))
+        same("the file of %s was not there, and is not there" % other, os.path.exists(new), False)
         leave(at)
     same("it is as it was", os.pread(sealed, 99, 0), b"precious")
     os.close(sealed)
@@ -183,11 +184,6 @@ def recovers(what, m, stop, go_on):
     m.end()
 
 
-def limit_of(m, size):
-    hard = resource.prlimit(m.process.pid, resource.RLIMIT_FSIZE)[1]
-    resource.prlimit(m.process.pid, resource.RLIMIT_FSIZE, (hard if size is None else size, hard))
-
-
 def limited():
     """A file that cannot grow because of a limit of the process, which is lifted again."""
     m = Mount()
@@ -234,6 +230,17 @@ def without_history():
         write(limits[0], b"7")  # a record, so that the next try begins after one more
     same("limits that were changed by halves", wrong, [])
     m.end()
+    m, wrong = Mount(trace="/dev/null", control=False), []
+    for _ in range(1016):
+        write(m.path("cgroup.max.depth"), b"9")
+    for _ in range(16):  # before one of them records are dropped
+        limit_of(m, os.path.getsize(m.answers))
+        got = error_of(os.mkdir, m.path("a")), os.path.exists(m.path("a"))
+        limit_of(m, None)
+        wrong += [got] if got != ("EFBIG", False) else []
+        write(m.path("cgroup.max.depth"), b"9")
+    same("groups without an answer", wrong, [])
+    m.end(replayed=False)
 
 
 def undone_by_halves():

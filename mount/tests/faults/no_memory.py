@@ -16,7 +16,8 @@ import tempfile
 import time
 
 sys.path.insert(0, os.path.dirname(os.path.dirname(os.path.realpath(__file__))))
-from support import AT, PATIENCE, PROGRAM, Mount, finish, in_parallel, is_alive, libc, read, same, step, until, write
+from support import AT, PATIENCE, PROGRAM, Mount, finish, in_parallel, is_alive, libc, limit_of, read, same, step, until
+from support import write
 
 ME = os.path.realpath(__file__)
 MOST = 400  # allocations of one call
@@ -154,10 +155,25 @@ def numbers():
         lambda: os.stat(e).st_nlink,
         again=lambda: (os.rmdir(e), write(m.control("undo"), b"1")),
     )
+    each(
+        "a listing with such a group",
+        lambda: sorted((entry.name, entry.is_dir()) for entry in os.scandir(a)),
+        again=lambda: (os.rmdir(e), write(m.control("undo"), b"1")),
+    )
+    each(
+        "the first mode that a file gets",
+        lambda: os.chmod(e + "/pids.max", 0o600),
+        lambda: os.stat(e + "/pids.max").st_mode,
+        lambda: (os.rmdir(e), os.mkdir(e)),
+    )
     os.rmdir(e)
     each("a stat of a file", lambda: os.stat(b + "/cgroup.procs").st_size)
     each("a listing", lambda: sorted(os.listdir(b)))
     each("an attribute of no name", lambda: os.getxattr(b, "user.x"))
+    os.setxattr(b, "user.z", b"value")
+    each("the value of an attribute", lambda: os.getxattr(b, "user.z"))
+    each("the names of all", lambda: os.listxattr(b))
+    os.removexattr(b, "user.z")
     each(
         "an attribute",
         lambda: os.setxattr(b, "user.y", b"1"),
@@ -176,6 +192,20 @@ def numbers():
     each("a mkdir", lambda: os.mkdir(m.path("c")), state, lambda: outcome(lambda: os.rmdir(m.path("c"))))
     long = m.path("c" * 200)
     each("a mkdir of a long name", lambda: os.mkdir(long), state, lambda: outcome(lambda: os.rmdir(long)))
+    write(m.control("forget"), b"\n")
+    folders = [m.path(*["d" * 240] * depth) for depth in range(1, 13)]
+    for folder in folders:
+        os.mkdir(folder)
+    sizes = set()
+    for nth in range(1, MOST):  # a text of few and long lines, for which the first stat that succeeds makes room
+        memory.refuse(nth)
+        sizes.add(outcome(lambda: os.stat(m.control("trace")).st_size))
+        if not memory.refused():
+            break
+    same("stats of a long text", sizes, {"ENOMEM", len(read(m.control("trace")))})
+    each("a read of a long text", lambda: read(m.control("trace")))
+    for folder in reversed(folders):
+        os.rmdir(folder)
     each("a rmdir", lambda: os.rmdir(m.path("c")), state, lambda: outcome(lambda: os.mkdir(m.path("c"))))
     os.rmdir(m.path("c"))
     each("a rmdir of a group with processes", lambda: os.rmdir(b), state)
@@ -317,6 +347,95 @@ def wakes(m, group):
                 break
     os.close(fd)
     same("whoever polls is woken", missed, [])
+
+
+def grown():
+    """Texts that are longer than there was room for at first. Without memory for more the room is as it was."""
+    m, processes = Mount(preload=LIBRARY), 3600
+    forks = ["fork 1 %d\n" % pid for pid in range(2, processes + 1)]
+    for line in forks:
+        write(m.control("fork"), line[len("fork ") :].encode())
+    listed = "".join("%d\n" % pid for pid in range(1, processes + 1))
+
+    def whole(path):
+        fd = os.open(path, os.O_RDONLY)
+        try:
+            return b"".join(iter(lambda: os.read(fd, 1 << 16), b"")).decode()
+        finally:
+            os.close(fd)
+
+    got = []
+    for path, text, rooms, size in (
+        (m.path("cgroup.procs"), listed, 2, 1 << 15),
+        (m.control("trace"), "".join(forks), 1, 1 << 16),
+    ):
+        for nth in range(1, rooms + 1):
+            memory.refuse(nth, size=size)
+            said = outcome(lambda: whole(path))
+            got.append((memory.refused() > 0, said[:9]))
+        got.append(whole(path) == text)
+    ended = m.unmounted(), m.ended(), m.replay()
+    refused = (True, "ENOMEM")
+    same("rooms that are refused, and the texts after that", got, [refused, refused, True, refused, True])
+    same("it is unmounted, its process ends, and cgreplay gives the same answers", ended, (True, 0, True))
+
+
+def ahead(name, options, begin, room, call, look):
+    """A call for which a file has no room is undone. Where there is no memory for that, nothing is done from then on: so the trace and
+    the answers fit."""
+    m, wrong, stopped = None, [], 0
+    for nth, rest in places():
+        if not m:
+            m = Mount(*options, preload=LIBRARY)
+            begin(m)
+        limit_of(m, room(m))
+        memory.refuse(nth, rest)
+        got = outcome(lambda: call(m))
+        refused = memory.refused()
+        limit_of(m, None)
+        goes_on = outcome(lambda: look(m)) != "EIO"
+        stopped += not goes_on
+        is_last = not refused and not rest
+        if not goes_on or is_last:
+            ended = m.unmounted(), m.ended(), m.replay()
+            m = None
+        if got not in ("EFBIG", "ENOMEM") or (m is None and ended != (True, 0, True)):
+            wrong.append((nth, rest, got, goes_on, m is None and ended))
+        if is_last:
+            break
+    same("%s, with %d refused" % (name, nth - 1), wrong[:3], [])
+    step("%s: it was not undone" % name, stopped > 0)
+
+
+def unkept():
+    size = os.path.getsize
+
+    def long_answers(m):
+        for _ in range(100):
+            read(m.path("cgroup.stat"))
+
+    def limits(m):
+        write(m.path("cgroup.subtree_control"), b"+pids")
+        for group in "xyz":
+            os.mkdir(m.path(group))
+            write(m.path(group, "pids.max"), b"7")
+
+    ahead(
+        "a group without room for its answer",
+        (),
+        long_answers,
+        lambda m: max(size(m.trace) + 60, size(m.answers)),
+        lambda m: os.mkdir(m.path("a")),
+        lambda m: read(m.path("cgroup.stat")),
+    )
+    ahead(
+        "three limits with room for one line",
+        ("--keep", "memory"),
+        limits,
+        lambda m: size(m.trace) + 60,
+        lambda m: write(m.path("cgroup.subtree_control"), b"-pids"),
+        lambda m: read(m.path("x/pids.max")),
+    )
 
 
 # ---------------------------------------------------------------- starts
@@ -584,6 +703,35 @@ def inside_forks():
     each("a fork", fork, state, faults=FORKS)
     each("a clone3 into a group", lambda: clone_into(fd), state, faults=FORKS)
     os.close(fd)
+    many_forks()
+
+
+def paused():
+    pid = os.fork()
+    while pid == 0:
+        libc.pause()
+    return pid
+
+
+ZOMBIES, ZOMBIE = 64, 12  # for how many zombies there is room at first, and the bytes of one
+
+
+def many_forks():
+    """There is room for each process to become a zombie, or it isn't made."""
+    write(AT + "/a/pids.max", b"max")
+    made, failed = set(), []
+    while len(made) < 2 * ZOMBIES:
+        memory.refuse(1, True, 2 * ZOMBIES * ZOMBIE)
+        got = outcome(paused)
+        memory.refused()
+        failed += [got] if got in FORKS else []
+        made.add(paused() if got in FORKS else got)
+    same("forks without room for a zombie", failed, ["ENOMEM"])
+    children = set(map(int, read("/proc/thread-self/children").split()))
+    same("what returned and is no child", made - children, set())
+    for pid in children:
+        os.kill(pid, signal.SIGKILL)
+        os.waitpid(pid, 0)
 
 
 STEPS, STEP = 64, 24  # how many steps of several commands have room at first, and the bytes of one
@@ -807,7 +955,7 @@ def inside_undone():
     process.wait(PATIENCE)
 
 
-OF_MOUNT = (starts, numbers, adopted, beginnings)
+OF_MOUNT = (starts, numbers, grown, unkept, adopted, beginnings)
 INSIDE = (
     inside_freezer,
     inside_undone,

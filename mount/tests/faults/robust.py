@@ -1,5 +1,7 @@
 """Clients that die, full devices, and mounts that go while they are used."""
 import contextlib
+import ctypes
+import errno
 import fcntl
 import glob
 import os
@@ -13,7 +15,7 @@ import threading
 import time
 
 sys.path.insert(0, os.path.dirname(os.path.dirname(os.path.realpath(__file__))))
-from support import PATIENCE, PROGRAM, Beside, Mount, companions_of
+from support import AT, PATIENCE, PROGRAM, Beside, Mount, companions_of, in_parallel
 from support import error_of, finish, is_alive, libc, line_of, own_of, parent_of, read, same, server_and_helper
 from support import status_within, step, until, write
 
@@ -40,6 +42,8 @@ def dying_clients():
         clients[i].kill()
         clients[i].wait()
         clients[i] = subprocess.Popen([sys.executable, "-c", CLIENT, m.at])
+    threads = lambda: len(os.listdir("/proc/%d/task" % m.process.pid))  # the first waits for the others
+    step("several threads answer them", until(lambda: threads() > 3), threads())
     for c in clients:
         c.kill()
         c.wait()
@@ -47,6 +51,7 @@ def dying_clients():
         "forty clients were killed, and the mount answers",
         read(m.path("a", "cgroup.stat")).startswith(b"nr_descendants 0\n"),
     )
+    step("the threads that answered them stay", threads() > 3, threads())
     m.end()
 
 
@@ -93,6 +98,45 @@ def unmounted_with_a_request_pending(preload):
     m = Mount(preload=preload)
     os.mkdir(m.path("a"))
     m.end()
+
+
+def broken_at_last(preload):
+    """The server's read fails with EIO. The status is not that of a mount which could not begin, and only libfuse says why."""
+    m = Mount(preload=preload)
+    os.mkdir(m.path("a"))
+    step("a mount whose device breaks is unmounted", m.unmounted())
+    same("its status", m.ended(), 1)
+    said = m.words()
+    step("libfuse says why", said.endswith(": Input/output error\n") and "makhloeum" not in said, said)
+
+
+def without_threads(preload):
+    """No thread can be made beside the first that answers. That one goes on, and libfuse's words about each attempt are left out."""
+    m = Mount(preload=preload)
+    os.mkdir(m.path("a"))
+    texts = []
+    in_parallel(lambda _: texts.append(read(m.path("a", "pids.max"))), range(50), lanes=5)
+    same("one thread answers five clients", texts, [b"max\n"] * 50)
+    m.end()
+    at = tempfile.mkdtemp()
+    words, preload = [PROGRAM, "mount", "--foreground", at], {"LD_PRELOAD": preload, "NO_THREAD": "1"}
+    ran = subprocess.run(words, stderr=subprocess.PIPE, timeout=PATIENCE, env=dict(os.environ, **preload))
+    said = b"makhloeum: the file system cannot be served: Resource temporarily unavailable\n"
+    same("without that one it does not begin", (ran.returncode, ran.stderr), (2, said))
+    os.rmdir(at)
+
+
+def ended_alone():
+    """A server that a signal ends unmounts by itself: its companion was killed before."""
+    m = Mount()
+    companions = companions_of(m.process.pid)
+    for companion in companions:
+        os.kill(companion, signal.SIGKILL)
+    step("its companion is gone", len(companions) == 1 and until(lambda: not is_alive(companions[0])))
+    m.process.send_signal(signal.SIGTERM)
+    same("its status, and what it says", (m.ended(), m.words()), (0, ""))
+    same("the mount is gone with it", " %s " % m.at in open("/proc/self/mounts").read(), False)
+    shutil.rmtree(m.home)
 
 
 def ended_while_open(how, name):
@@ -204,6 +248,7 @@ def background(closed=""):
     at = tempfile.mkdtemp()
     ran = subprocess.run(
         ["sh", "-c", '"$0" mount "$1" ' + closed, PROGRAM, at],
+        stdin=subprocess.PIPE,
         stdout=subprocess.PIPE,
         stderr=subprocess.PIPE,
         timeout=PATIENCE,
@@ -334,6 +379,59 @@ def parts():
                 os.close(r)
 
 
+def errors_of(*calls):
+    """The name of the errno of each of these calls of the C library, or "ok"."""
+    return ["ok" if call() >= 0 else errno.errorcode[ctypes.get_errno()] for call in calls]
+
+
+def mounts_at(place):
+    """Calls of a program that would mount, or begin a mount."""
+    return [lambda kind=kind: libc.mount(b"x", place, kind, 0, None) for kind in (b"cgroup2", b"cgroup", b"tmpfs")]
+
+
+def gone():
+    """Inside: whoever called is said to have ended meanwhile. Nothing is written or mounted in its place, which another may have by now."""
+    described, place = (ctypes.c_long * 32)(), tempfile.mkdtemp().encode()
+    fd = os.open(AT, os.O_RDONLY)
+    got = errors_of(lambda: libc.statfs(AT.encode(), described), lambda: libc.fstatfs(fd, described))
+    same("both calls of statfs, and what is written", (got, set(described)), (["EFAULT"] * 2, {0}))
+    begin, _, other = mounts_at(place)
+    same("mounts", errors_of(begin, other, lambda: libc.syscall(430, b"tmpfs", 0)), ["EPERM"] * 3)  # fsopen
+    same("none is there", os.path.ismount(place), False)
+    os.rmdir(place)
+
+
+def not_found():
+    """Inside: without memory to find what a call is about the call fails, and shows or mounts nothing of the machine's."""
+    short, place = os.environ["NOT_FOUND"], tempfile.mkdtemp().encode()
+    described, group = (ctypes.c_long * 32)(), os.open(AT, os.O_RDONLY)
+    args = (ctypes.c_uint64 * 11)(0x200000000, 0, 0, 0, signal.SIGCHLD, 0, 0, 0, 0, 0, group)  # CLONE_INTO_CGROUP
+    text = lambda name: lambda: libc.open(name, os.O_RDONLY)
+    os.chdir("/proc/self")
+    for what, *calls in (
+        ("root", text(b"/proc/self/cgroup"), lambda: libc.statfs(AT.encode(), described), *mounts_at(place)),
+        ("fd", lambda: libc.fstatfs(group, described), lambda: libc.syscall(435, args, 88)),
+        ("cwd", text(b"cgroup"), mounts_at(place)[0], mounts_at(place)[2]),
+        ("mounts", text(b"/proc/self/mounts")),
+        ("ns", mounts_at(place)[0], mounts_at(place)[2]),
+    ):
+        os.mkdir("%s/%s" % (short, what))
+        got = errors_of(*calls)
+        os.rmdir("%s/%s" % (short, what))
+        same("without memory for N/%s" % what, got, ["ENOMEM"] * len(calls))
+    same("none is mounted", os.path.ismount(place), False)
+    same("then there is a text", read("/proc/self/cgroup"), b"0::/\n")
+    os.rmdir(place)
+
+
+def preloaded(test):
+    """A run of this test, in which makhloeum has the library of its name."""
+    library = os.path.join(os.path.dirname(PROGRAM), test.__name__ + ".so")
+    words = [PROGRAM, "run", "--root", sys.executable, ME, test.__name__]
+    env = dict(os.environ, LD_PRELOAD=library, NOT_FOUND=tempfile.mkdtemp())
+    same("%s: its status" % test.__name__, subprocess.run(words, timeout=4 * PATIENCE, env=env).returncode, 0)
+
+
 def links_of(pid):
     """Where its descriptors lead; it may close some of them meanwhile."""
     found = []
@@ -374,6 +472,10 @@ if sys.argv[1:] == ["over"]:
     covered()
     unaided()
     finish()
+for test in (gone, not_found):
+    if sys.argv[1:] == [test.__name__]:
+        test()
+        finish()
 for test, args in (
     (dying_clients, ()),
     (full_device, ()),
@@ -381,6 +483,7 @@ for test, args in (
     (unmounted_while_open, ()),
     (ended_while_open, (signal.SIGTERM, "SIGTERM")),
     (ended_while_open, (signal.SIGKILL, "SIGKILL")),
+    (ended_alone, ()),
     (killed_under_load, ()),
     (bad_lines, ()),
     (subcommands, ()),
@@ -396,8 +499,16 @@ for test, args in (
 ):
     test(*args)
 # only with the plain build: the sanitizers' library has to be loaded first
-ABORTED, SLOW_ANSWER = (os.path.join(os.path.dirname(PROGRAM), name) for name in ("aborted.so", "slow_answer.so"))
-if os.path.exists(ABORTED):
-    unmounted_with_a_request_pending(ABORTED)
-    refused_at_first(SLOW_ANSWER)
+for test, name in (
+    (unmounted_with_a_request_pending, "aborted"),
+    (broken_at_last, "broken"),
+    (without_threads, "no_threads"),
+    (refused_at_first, "slow_answer"),
+):
+    preload = os.path.join(os.path.dirname(PROGRAM), name + ".so")
+    if os.path.exists(preload):
+        test(preload)
+if os.path.exists(os.path.join(os.path.dirname(PROGRAM), "gone.so")):
+    preloaded(gone)
+    preloaded(not_found)
 finish()

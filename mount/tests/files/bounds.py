@@ -203,7 +203,8 @@ def words(group, other="EINVAL"):
     wrong = []
     rows = [("cgroup.type", text, other) for text in (b"x", b"domai", b"domainx", b"DOMAIN", b"1", b"threade")]
     rows += [("cgroup.subtree_control", text, "ok") for text in (b" ", b"\n", b"   \n", b" " * 4096)]
-    rows += [("cgroup.subtree_control", b" " * 4097, "E2BIG"), ("cgroup.type", b"x".rjust(4097), "E2BIG")]
+    rows += [("cgroup.subtree_control", b" " * 4097, "E2BIG")]
+    rows += [("cgroup.type", b"x".rjust(4096), other), ("cgroup.type", b"x".rjust(4097), "E2BIG")]
     for name, value, wanted in rows:
         got = put(group, name, value)
         if got != wanted:
@@ -416,8 +417,11 @@ def io(v):
 def lists(v):
     for name in ("cpuset.cpus", "cpuset.mems"):
         rows = [*padded(b"0", b"0\n"), *sized(b"0", b"0\n")]
-        # here a blank separates, and 0xa0 does so only at the ends
+        # here a blank separates
         tries(v, name, [row for row in rows if row[0] not in (b"\0000",)])
+        tries(
+            v, name, [(b"0%c0" % c, "ok", b"0\n") for c in BLANKS] + [(b"0%c0" % c, "EINVAL", None) for c in NO_BLANKS]
+        )
         tries(
             v,
             name,

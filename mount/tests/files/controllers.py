@@ -119,6 +119,9 @@ def lost_pids():
     same("two limits are one operation", text_of(m, ".makhloeum", "depth"), str(int(depth) + 1))
     same("a line for each", read(m.control("newest")), b"write /a pids.max max\nwrite /b pids.max max\n")
     write(m.control("undo"), b"\n")
+    depth = text_of(m, ".makhloeum", "depth")
+    change(m, ".", "-pids")
+    same("disabled once more, it is no operation", text_of(m, ".makhloeum", "depth"), depth)
     change(m, ".", "+pids")
     same("one undo sets both again", (text_of(m, "a", "pids.max"), text_of(m, "b", "pids.max")), ("3", "4"))
     write(m.path("b", "pids.max"), b"max\n")
@@ -319,6 +322,26 @@ def each_one():
     m.end()
 
 
+def beside():
+    """One of two children decides, whichever it is: one that is populated, and one that shares a controller out."""
+    m = Mount("--keep", KEPT)
+    change(m, ".", "+pids")
+    os.makedirs(m.path("a", "x", "in"))
+    os.makedirs(m.path("a", "y", "in"))
+    change(m, "a", "+pids")
+    write(m.control("fork"), b"1 2\n")
+    enter = lambda: error_of(write, m.path("a", "cgroup.procs"), b"1\n")
+    for name in ("x", "y"):
+        write(m.path("a", name, "cgroup.procs"), b"2\n")
+        same("%s is populated: a process comes above" % name, enter(), "EBUSY")
+        write(m.path("cgroup.procs"), b"2\n")
+        same("%s shares pids out" % name, change(m, "a/" + name, "+pids"), "ok")
+        same("and so it cannot be taken back", change(m, "a", "-pids"), "EBUSY")
+        same("until it does not", change(m, "a/" + name, "-pids"), "ok")
+    same("neither is populated, and neither shares", (enter(), change(m, "a", "-pids")), ("ok", "ok"))
+    m.end()
+
+
 def several():
     """Two controllers that one write disables: both lose what they have and their open files, and the others nothing."""
     m = Mount("--keep", KEPT)
@@ -465,6 +488,7 @@ for test in (
     threaded,
     again,
     each_one,
+    beside,
     several,
     undone,
     without,

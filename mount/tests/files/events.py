@@ -4,6 +4,7 @@ import select
 import signal
 import struct
 import sys
+import time
 
 sys.path.insert(0, os.path.dirname(os.path.dirname(os.path.realpath(__file__))))
 from support import PATIENCE, Beside, Mount, companions_of, error_of, finish, libc, read, same, step, until, write
@@ -194,6 +195,19 @@ for group in (*groups, "q0"):
 for pid in companions:
     os.kill(pid, signal.SIGCONT)
 tells("all that changed while the companion was stopped", late, *files)
+for pid in companions:
+    os.kill(pid, signal.SIGSTOP)
+for i in range(40):
+    os.mkdir(m.path("gone"))
+    os.stat(m.path("gone", "cgroup.events"))
+    write(m.path("gone", "cgroup.procs"), b"4\n")
+    write(m.path("cgroup.procs"), b"4\n")
+    os.rmdir(m.path("gone"))
+began = time.monotonic()
+for pid in companions:
+    os.kill(pid, signal.SIGCONT)
+watch.take()
+step("groups that are gone by then hold up no other change", time.monotonic() - began < 20, time.monotonic() - began)
 for w in (watch, untold, events, late):
     os.close(w.fd)
 m.end()

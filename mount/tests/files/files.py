@@ -157,6 +157,7 @@ def groups():
 def opened():
     m = Mount()
     os.mkdir(m.path("a"))
+    first = os.open(m.path("a", "pids.max"), os.O_RDWR)
     fd = os.open(m.path("a", "pids.max"), os.O_RDWR)
     same("read", os.read(fd, 100), b"max\n")
     same("read on", os.read(fd, 100), b"")
@@ -167,8 +168,9 @@ def opened():
     same("read after rmdir", error_of(os.pread, fd, 100, 0), "ENODEV")
     same("write after rmdir", error_of(os.write, fd, b"5\n"), "ENODEV")
     os.mkdir(m.path("a"))
-    same("a new group is another", error_of(os.write, fd, b"5\n"), "ENODEV")
-    os.close(fd)
+    for each in (first, fd):
+        same("a new group is another", error_of(os.write, each, b"5\n"), "ENODEV")
+        os.close(each)
     os.chmod(m.path("a"), 0o700)
     os.chown(m.path("a"), os.getuid(), os.getgid())
     same("a mode is kept", stat.S_IMODE(os.stat(m.path("a")).st_mode), 0o700)
@@ -378,10 +380,14 @@ def control():
     same("undo of none", (error_of(write, m.control("undo"), b"0\n"), read(m.control("depth"))), ("ok", b"4\n"))
     write(m.control("undo"), b"3\n")
     same("three more", read(m.control("trace")), b"mkdir /a\n")
-    fd = os.open(m.path("a", "pids.max"), os.O_RDONLY)
+    fd, directory = os.open(m.path("a", "pids.max"), os.O_RDONLY), os.open(m.path("a"), os.O_RDONLY)
     write(m.control("undo"), b"1\n")
     same("an open file of a group whose mkdir was undone", error_of(os.read, fd, 9), "ENODEV")
+    os.mkdir(m.path("a"))
+    same("a mkdir in its directory", error_of(lambda: os.mkdir("b", dir_fd=directory)), "ENOENT")
+    write(m.control("undo"), b"1\n")
     os.close(fd)
+    os.close(directory)
     same("nothing is left to undo", error_of(write, m.control("undo"), b"1\n"), "ENODATA")
     for name, words in (
         ("undo", "x"),

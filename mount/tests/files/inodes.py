@@ -393,6 +393,8 @@ def continued(at):
     for i in (0, 1, 50, 99, len(order) - 1):
         libc.seekdir(stream, ctypes.c_long(offsets[i]))
         same("after a seek to entry %d" % i, Entry.from_address(libc.readdir(stream)).name, order[i])
+    libc.seekdir(stream, ctypes.c_long(1 << 40))
+    same("after a seek beyond all entries", libc.readdir(stream), None)
     libc.rewinddir(stream)
     same("from the start", Entry.from_address(libc.readdir(stream)).name, order[0])
     os.mkdir(group + "/later")

@@ -430,7 +430,7 @@ def hidden():
     same("a namespace that is not made", os.waitpid(pid, 0)[1], 0)
     same("is not that without a number", read(AT + "/.makhloeum.0.0"), b"0::/\n")
     names = (".makhloeum.x", ".makhloeum.1.x", ".makhloeum.4194304.0", ".makhloeum.", ".makhloeumx", ".makhloeum.t.1x")
-    for name in names:
+    for name in (*names, ".makhloeum.t." + 20 * "9"):
         same(
             "a group %s" % name,
             (error_of(os.mkdir, AT + "/" + name), read(AT + "/%s/pids.peak" % name)),
@@ -556,6 +556,23 @@ def longest():
     same("the root of a cgroup namespace", (ran.returncode, ran.stdout), (0, b"0::/\n"))
 
 
+MANY = """import ctypes, os, sys, tempfile
+at = tempfile.mkdtemp(prefix=200 * "a").encode()
+wrong = [ctypes.CDLL(None).mount(at, at, None, 4096, None) for _ in range(300)]  # MS_BIND
+print(open("/proc/self/mountinfo", "rb").read().count(b"/" + os.path.basename(at) + b" "), any(wrong), flush=True)
+while ctypes.CDLL(None).umount(at) == 0:
+    pass
+os.rmdir(at)
+"""
+
+
+def long_table():
+    """A table of mounts that is longer than what is read at once is there as a whole, and its memory too."""
+    words = [PROGRAM, "run", "--root", "--", "unshare", "-m", sys.executable, "-c", MANY]
+    ran = subprocess.run(words, stdout=subprocess.PIPE, timeout=4 * PATIENCE)
+    same("many mounts: each twice on its line", (ran.returncode, ran.stdout), (0, b"600 False\n"))
+
+
 ROOT_OF_ITS_OWN = """n=$(mktemp -d)
 mount -t tmpfs root $n
 for d in bin lib lib64 usr; do [ ! -d /$d ] || { mkdir $n/$d; mount --bind /$d $n/$d; }; done
@@ -576,7 +593,8 @@ def over():
     mounts = ("tmpfs mine", "cgroup2 x", "tmpfs again")
     script = "".join("mount -t %s %s\n" % (each, AT) for each in mounts)
     wanted = ["cgroup2 cgroup2", "mine tmpfs", "cgroup2 cgroup2", "again tmpfs"]
-    below = ["unshare", "-Urm", "sh", "-c", 'mount -t tmpfs below %s && exec "$@"' % AT, "sh"]
+    lays = "mount -t tmpfs below %s && mkdir %s/a && mount -t tmpfs beside %s/a" % (AT, AT, AT)
+    below = ["unshare", "-Urm", "sh", "-c", lays + ' && exec "$@"', "sh"]
     if not re.search("^[^ ]+ [^ ]+ cgroup2? ", open("/proc/mounts").read(), re.M):
         wanted.insert(0, "below tmpfs")  # a machine without a hierarchy of its own
     for what, form in (
@@ -593,6 +611,7 @@ def over():
             ran = subprocess.run(words, stdout=subprocess.PIPE, timeout=4 * PATIENCE)
             found = [" ".join(sorted(each)) for each in re.findall("^" + form % AT + "$", ran.stdout.decode(), re.M)]
             same("%s: %s" % (what, how), (ran.returncode, found), (0, listed))
+            same("a tmpfs in that below", ran.stdout.count(b"beside"), int(makes is script))
 
 
 def other():
@@ -635,7 +654,20 @@ if sys.argv[1:] == ["kernel"]:
             as_in_a_kernel("the kernel", group)
             no_empty_line("the kernel", group)
     finish()
-for test in (every_file, control, without_history, names, most, of_system, made, under_run, tables, over, other):
+for test in (
+    every_file,
+    control,
+    without_history,
+    names,
+    most,
+    of_system,
+    made,
+    under_run,
+    tables,
+    long_table,
+    over,
+    other,
+):
     test()
 ran = subprocess.run([PROGRAM, "run", "--root", sys.executable, ME, "longest"], timeout=2 * PATIENCE)
 same("the longest path: its status", ran.returncode, 0)

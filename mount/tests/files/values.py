@@ -434,6 +434,9 @@ def of_disks():
         file = AT + "/v/" + name
         same("%s: %s" % (name, words), error_of(write, file, words.encode() + b"\n"), error)
         same("%s then" % name, read(file).decode(), text)
+    for name, value in (("io.max", b"wiops=9"), ("io.weight", b"9"), ("io.weight", b"default")):
+        taken = [n for n in range(1, 256) if error_of(write, AT + "/v/" + name, b"8:0%c%s" % (n, value)) == "ok"]
+        same("%s: what may be between a device and %s" % (name, value.decode()), bytes(taken), b"\t\n\v\f\r \xa0")
 
 
 def of_many():

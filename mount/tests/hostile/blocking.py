@@ -18,8 +18,8 @@ import time
 
 sys.path.insert(0, os.path.dirname(os.path.dirname(os.path.realpath(__file__))))
 from support import AT, BUILT, PATIENCE, PROGRAM, Beside, Mount, companions_of
-from support import clone_into, error_of, finish, in_parallel, into, libc, line_of, own_of, read, rests
-from support import run_beside_stalled, same, status_within, step, tracer, until, write
+from support import clone_into, error_of, finish, in_parallel, into, is_alive, libc, line_of, own_of, read, rests
+from support import run_beside_stalled, same, server_and_helper, status_within, step, tracer, until, write
 
 ME = os.path.realpath(__file__)
 BLOCKING = os.path.join(BUILT, "blocking")
@@ -352,6 +352,23 @@ def crowded():
     """So many clone3 calls wait for memory that no more may: then C libraries use clone."""
     ran = subprocess.run([BLOCKING, "full", PAGE], stdout=subprocess.PIPE, timeout=4 * PATIENCE)
     same("the 512th clone3, the 513th, a fork, a filter and the strict mode", ran.stdout, b"ok ENOSYS ok 0 0\n")
+    statuses = []
+    for path in glob.glob("/proc/%d/task/*/status" % helper_of(tracer())):
+        with contextlib.suppress(FileNotFoundError):  # one that is left over ends
+            statuses.append(os.open(path, os.O_RDONLY))
+
+    def wakes():
+        """How often the helper has waited so far; no open is part of this question."""
+        found = 0
+        for fd in statuses:
+            with contextlib.suppress(ProcessLookupError):
+                found += int(re.search(rb"(?m)^voluntary_ctxt_switches:\s*(\d+)", os.pread(fd, 1 << 16, 0))[1])
+        return found
+
+    step("the helper rests", until(lambda: (wakes(), time.sleep(0.05))[0] == wakes()))
+    root, before = os.open(AT, os.O_RDONLY), wakes()
+    same("two hundred more", {clone_into(root) for _ in range(200)}, {"ENOSYS"})
+    step("the helper does not hear of them", wakes() - before < 100, wakes() - before)
     step("others still run", forks())
 
 
@@ -365,16 +382,21 @@ def opening():
     limits the supervisor. Once all have ended, as many may wait as before."""
     os.mkdir(AT + "/a")
     into("/a")
-    stalled = os.path.dirname(PAGE)
+    stalled, helper = os.path.dirname(PAGE), server_and_helper(tracer())[1]
+    size = lambda: int(re.search(r"(?m)^VmData:\s*(\d+) kB", open("/proc/%d/status" % helper).read())[1])
+    before = size()
     words = [BLOCKING, "opens", stalled + "/late", str(tracer())]
     p = subprocess.Popen(words, stdin=subprocess.PIPE, stdout=subprocess.PIPE)
     said = Beside(lambda: [p.stdout.readline() for _ in range(2)]).result()
     same("the text of the 501st, and a limit", said, [b"0::/a\n", b"EPERM\n"])
-    helper = helper_of(tracer())
     count = lambda: len(os.listdir("/proc/%d/task" % helper))
-    same("the threads of the helper", count(), 512 + 3)
+    # the one that opened the 501st rests for a moment before it ends
+    step("the threads of the helper", until(lambda: count() == 512 + 3), count())
     os.path.exists(stalled + "/go")
     step("those that waited end", until(lambda: count() == 3), count())
+    if os.path.exists(SLOW_KILL):  # a sanitizer has memory of its own for each thread
+        # libc keeps forty mebibytes of stacks, and has memory for some of the threads that allocated
+        step("and some of their stacks, of a quarter of a mebibyte each", size() - before < 100 << 10, (before, size()))
     same("the text of another one", read("/proc/self/cgroup"), b"0::/a\n")
     p.communicate()
     into("")
@@ -394,6 +416,15 @@ def waits_of(statuses):
     for path in statuses:
         with contextlib.suppress(FileNotFoundError, ProcessLookupError), open(path) as status:
             found.append(int(re.search(r"^voluntary_ctxt_switches:\s*(\d+)", status.read(), re.M)[1]))
+    return found
+
+
+def states_of(pids):
+    """The states of the threads of these processes. One that ends meanwhile is left out."""
+    found = set()
+    for path in (path for pid in pids for path in glob.glob("/proc/%d/task/*" % pid)):
+        with contextlib.suppress(FileNotFoundError, ProcessLookupError):
+            found.add(stat_of(path[len("/proc/") :])[0])
     return found
 
 
@@ -422,6 +453,42 @@ def resting():
         same("the open that waits", late.result(), "ENOENT")
     step("another open is answered while one waits", before_it > 0)
     same("the threads that an open wakes", round(max(each(), 1)), 1)
+
+    def cost(path):
+        """The least processor time that the helper uses for a hundred opens, which other work on the machine hardly changes."""
+        costs = []
+        for _ in range(10):
+            before = time.clock_gettime(~helper << 3 | 2)  # the clock of a process, as the kernel numbers it
+            for _ in range(100):
+                os.close(os.open(path, os.O_RDONLY))
+            costs.append(time.clock_gettime(~helper << 3 | 2) - before)
+        return min(costs)
+
+    def here():
+        """Of a hundred opens how many the helper answers on the processor of their caller, which changes its own; -1: its thread has ended."""
+        tasks = (name.removeprefix("/proc/") for name in glob.glob("/proc/%d/task/*" % helper))
+        busiest = max(tasks, key=lambda task: sum(waits_of(["/proc/%s/status" % task])))
+        all_of_it, found = sorted(os.sched_getaffinity(0)), 0
+        try:
+            for i in range(100):
+                os.sched_setaffinity(0, all_of_it[i % len(all_of_it) :][:1])
+                found += int(stat_of(busiest)[36]) == all_of_it[i % len(all_of_it)]
+        except FileNotFoundError:
+            found = -1
+        os.sched_setaffinity(0, all_of_it)
+        return found
+
+    if tuple(map(int, re.findall(r"\d+", os.uname().release)[:2])) >= (6, 6):
+        # of several hundreds, since a thread that is kept waiting by a busy machine leaves the calls to another
+        step("most opens are answered on the processor of their caller", until(lambda: here() >= 80), here())
+    costs = []
+    while len(costs) < 4 and not any(one < 0.55 * of_proc for one, of_proc in costs):
+        costs.append((cost("/"), cost("/proc")))
+    step(
+        "a file on the way to which nothing is mounted takes less of its time than one of /proc",
+        costs[-1][0] < 0.55 * costs[-1][1] or not os.path.exists(SLOW_KILL),  # a sanitizer makes both take longer
+        costs,
+    )
 
 
 def stopped():
@@ -576,7 +643,7 @@ INSIDE = {
     crowded: [],
     opening: [],
     storming: [],
-    resting: [],
+    resting: ["--root"],
     stopped: [],
     stopping: [],
     elsewhere: ["--root"],
@@ -654,30 +721,44 @@ def queued():
         names[libc.inotify_add_watch(watch, m.path(name, "cgroup.events").encode(), 2)] = name  # IN_MODIFY
     os.stat(m.path("last", "cgroup.events"))
     companions = companions_of(m.process.pid)
-    for pid in companions:
-        os.kill(pid, signal.SIGSTOP)
-    step(
-        "a companion is stopped",
-        companions and until(lambda: all(stat_of(pid)[0] == b"T" for pid in companions)),
-        companions,
-    )
+
+    def stop():
+        for pid in companions:
+            os.kill(pid, signal.SIGSTOP)
+        are_stopped = companions and until(lambda: all(stat_of(pid)[0] == b"T" for pid in companions))
+        step("a companion is stopped", are_stopped, companions)
+
+    def go_on():
+        for pid in companions:
+            os.kill(pid, signal.SIGCONT)
+
+    def told(*wanted):
+        """What is told until all of these were."""
+        names_of = []
+        while not set(wanted) <= set(names_of):
+            events = Beside(os.read, watch, 65536).result() or b""
+            if not events:
+                break
+            names_of += [names[number] for number, *_ in struct.iter_unpack("iIII", events)]
+        return names_of
+
+    stop()
     write(m.path(above, "cgroup.freeze"), b"1")
     write(m.path("last", "cgroup.freeze"), b"1")
     os.rmdir(m.path("last"))
     for name, value in (("next", b"1"), ("other", b"1"), ("next", b"0")):
         write(m.path(name, "cgroup.freeze"), value)
-    for pid in companions:
-        os.kill(pid, signal.SIGCONT)
+    go_on()
     write(m.path("mark", "cgroup.freeze"), b"1")
-    told = []
-    while "mark" not in told:
-        events = Beside(os.read, watch, 65536).result() or b""
-        if not events:
-            break
-        told += [names[number] for number, *_ in struct.iter_unpack("iIII", events)]
-    in_order = ["next", "other", "mark"]
-    same("reported once, in order", ([x for x in told if x not in leaves], told[-3:]), (in_order, in_order))
-    same("not reported", [x[-253:-247] for x in leaves if x not in told], [])
+    got, in_order = told("mark"), ["next", "other", "mark"]
+    same("reported once, in order", ([x for x in got if x not in leaves], got[-3:]), (in_order, in_order))
+    same("not reported", [x[-253:-247] for x in leaves if x not in got], [])
+    stop()
+    write(m.path(above, "cgroup.freeze"), b"0")
+    go_on()
+    got = told(*leaves)
+    write(m.path("mark", "cgroup.freeze"), b"0")
+    same("then only what has changed again", set(got + told("mark")) - set(leaves), {"mark"})
     os.close(watch)
     m.end()
 
@@ -685,7 +766,7 @@ def queued():
 def busy():
     """The companion is stopped and continued again and again. Each time a thread waits for it, which leaves no memory behind."""
     m = Mount("--extra")
-    watch, companions = libc.inotify_init(), companions_of(m.process.pid)
+    watch, companions, threads = libc.inotify_init(), companions_of(m.process.pid), []
     for name in ("often", "mark"):
         os.mkdir(m.path(name))
         mark = libc.inotify_add_watch(watch, m.path(name, "cgroup.events").encode(), 2)  # IN_MODIFY
@@ -703,6 +784,7 @@ def busy():
             os.kill(pid, signal.SIGSTOP)
         for each in (b"1", b"0") * 300:
             write(m.path("often", "cgroup.freeze"), each)
+        threads.append(len(os.listdir("/proc/%d/task" % m.process.pid)))
         for pid in companions:
             os.kill(pid, signal.SIGCONT)
         write(m.path("mark", "cgroup.freeze"), value)
@@ -719,6 +801,7 @@ def busy():
     before = unused_stacks()
     step("each time", all(turn(b"%d" % (i % 2)) for i in range(20)))
     step("it keeps no stacks of threads that ended", unused_stacks() - before < 10, (before, unused_stacks()))
+    step("at most one thread waits, beside those of requests", max(threads) < 30, threads)
     os.close(watch)
     m.end()
 
@@ -750,7 +833,7 @@ def callers():
     for name, way in ways:
         p = subprocess.Popen([PROGRAM, "run", "sh", "-c", "/bin/true; exit 7"], preexec_fn=way)
         same("its caller " + name, status_within(p), 7)
-    for names in (("SIGCHLD", "SIGPIPE", "SIGQUIT", "SIGXFSZ"), ("SIGUSR1",), ()):
+    for names in (("SIGCHLD", "SIGPIPE", "SIGQUIT", "SIGXFSZ"), ("SIGHUP", "SIGUSR1", "SIGRTMAX"), ()):
 
         def ignore():
             for n in names:
@@ -783,16 +866,155 @@ def idle():
         return waits_of(status)
 
     def rest():
-        before = wakes()
-        time.sleep(0.25)
-        return wakes() == before
+        before, states = wakes(), set()
+        for _ in range(20):  # a thread that works without an end is hardly ever seen asleep
+            time.sleep(0.0125)
+            states |= states_of(all_of)
+        return (wakes(), states) == (before, {b"S"})
 
-    step("its %d threads rest" % len(wakes()), until(rest), wakes())
+    all_of = [p.pid, *own_of(p.pid)]
+    step("its %d threads rest" % len(wakes()), until(rest), (wakes(), states_of(all_of)))
     p.send_signal(signal.SIGTERM)
     same("its status", status_within(p), 128 + signal.SIGTERM)
 
 
-OUTSIDE = (unmounted, stuck, queued, busy, killed, callers, idle)
+def flooded():
+    """More clone3 calls at once than the socket to the helper has room for, while the helper is stopped again and again."""
+    p = subprocess.Popen([PROGRAM, "run", BLOCKING, "flood", ""], stdin=subprocess.PIPE, stdout=subprocess.PIPE)
+    same("its threads are there", p.stdout.readline(), b"ready\n")
+    helper, stopped = server_and_helper(p.pid)[1], lambda pid: stat_of(pid)[0] in (b"T", b"t")
+    (program,) = (
+        int(n) for n in read("/proc/%d/task/%d/children" % (p.pid, p.pid)).split() if int(n) not in own_of(p.pid)
+    )
+    os.kill(p.pid, signal.SIGSTOP)
+    step("the supervisor is stopped", until(lambda: stopped(p.pid)))
+    p.stdin.write(b"x")
+    p.stdin.flush()
+    threads = ["%d/task/%s" % (program, n) for n in os.listdir("/proc/%d/task" % program)]
+    step("all of them wait for it", until(lambda: sum(map(stopped, threads)) >= len(threads) - 1))
+    os.kill(helper, signal.SIGSTOP)
+    step("the helper is stopped", until(lambda: stopped(helper)))
+    os.kill(p.pid, signal.SIGCONT)
+    ended, end = Beside(p.stdout.readline), time.monotonic() + PATIENCE
+    with contextlib.suppress(ProcessLookupError):  # the run may end before it is read that they have
+        while not ended.got and time.monotonic() < end:
+            os.kill(helper, signal.SIGSTOP)
+            time.sleep(0.0001)
+    status = status_within(p)
+    same("they end, and its status", (ended.result(), status), (b"ended\n", 0))
+
+
+WAITS = """import os
+pid = os.fork()
+if pid == 0:
+    os.read(0, 1)
+    os.open("/", os.O_RDONLY)
+    os._exit(0)
+print(pid, flush=True)
+os.waitpid(pid, 0)
+print(open("/proc/self/cgroup").read(), end="", flush=True)
+"""
+
+
+def withdrawn():
+    """Who has made a call is killed before the helper has taken it: others are answered."""
+    words = [PROGRAM, "run", sys.executable, "-S", "-c", WAITS]
+    p = subprocess.Popen(words, stdin=subprocess.PIPE, stdout=subprocess.PIPE)
+    caller, helper = int(p.stdout.readline()), server_and_helper(p.pid)[1]
+    step("it reads", until(lambda: stat_of(caller)[0] == b"S"))
+    for pid in (p.pid, helper):
+        os.kill(pid, signal.SIGSTOP)
+        step("the supervisor and the helper are stopped", until(lambda: stat_of(pid)[0] == b"T"))
+    before = waits_of(["/proc/%d/status" % caller])
+    p.stdin.write(b"x")
+    p.stdin.flush()
+    step("it opens", until(lambda: waits_of(["/proc/%d/status" % caller]) > before and stat_of(caller)[0] == b"S"))
+    os.kill(caller, signal.SIGKILL)
+    step("it is killed", until(lambda: stat_of(caller)[0] == b"Z"))
+    for pid in (helper, p.pid):
+        os.kill(pid, signal.SIGCONT)
+    status = status_within(p)
+    same("another open, and the status", (p.stdout.readline(), status), (b"0::/\n", 0))
+
+
+def left():
+    """The helper is killed while a process mounts for the program, which waits for a file system that is stopped: it ends too."""
+    home, at = tempfile.mkdtemp(), tempfile.mkdtemp()
+    system = subprocess.Popen([os.path.join(BUILT, "stalled"), home], stderr=subprocess.DEVNULL)
+    if not until(lambda: os.path.ismount(home)):
+        step("a file system that does not answer can be mounted", False)
+        return
+    os.kill(system.pid, signal.SIGSTOP)  # what it has not read yet ends with who waits for it
+    code = "import ctypes, sys\nctypes.CDLL(None).mount(b'x', b'%s', b'overlay', 0, b'lowerdir=%s/new:/')" % (at, home)
+    for before in ([], ["unshare", "--pid", "--fork"]):
+        words = [PROGRAM, "run", "--root", *before, sys.executable, "-S", "-c", code]
+        p = subprocess.Popen(words, stderr=subprocess.DEVNULL)
+        step("it runs", until(lambda: len(own_of(p.pid)) == 3 and len(server_and_helper(p.pid)) == 2))
+        helper = server_and_helper(p.pid)[1]
+        made = lambda: below(helper)
+        step("a process mounts %s" % before[:1], until(lambda: len(made()) == 1 + bool(before)), made())
+        pids = made()
+        os.kill(helper, signal.SIGKILL)
+        same("the status", status_within(p), 128 + signal.SIGKILL)
+        ended = until(lambda: not any(map(is_alive, pids)))
+        for pid in filter(is_alive, pids):
+            os.kill(pid, signal.SIGKILL)
+        step("it has ended", ended)
+    system.kill()
+    subprocess.run(["fusermount3", "-u", "-q", "-z", home])
+    system.wait()
+
+
+def below(pid):
+    """The children of a process's threads, and theirs."""
+    found = []
+    for name in glob.glob("/proc/%d/task/*/children" % pid):
+        with contextlib.suppress(FileNotFoundError, ProcessLookupError):
+            for child in map(int, read(name).split()):
+                found += [child, *below(child)]
+    return found
+
+
+STOPS = """
+import os, signal, sys, threading, time
+threading.Thread(target=lambda: os.read(os.open(sys.argv[1], os.O_RDONLY), 1)).start()
+while not os.path.exists(os.path.dirname(sys.argv[1]) + "/asked"):
+    time.sleep(0.01)
+os.write(1, b"it reads\\n")
+os.kill(os.getpid(), signal.SIGSTOP)
+os.write(1, b"it goes on")
+"""
+
+
+def whole():
+    """A signal stops the program, of which one thread waits in a read that no stop ends. It has stopped once that has, and so has
+    makhloeum."""
+    if PAGE:
+        p = subprocess.Popen(
+            [PROGRAM, "run", sys.executable, "-c", STOPS, os.path.dirname(PAGE) + "/late"],
+            stdout=subprocess.PIPE,
+            start_new_session=True,
+        )
+        same("one of its threads reads", p.stdout.readline(), b"it reads\n")
+        (program,) = set(children_of(p.pid)) - set(own_of(p.pid))
+        # not only for a moment, as at a call that the supervisor looks at
+        step("its first thread stops", until(lambda: all(stat_of(program)[0] == b"t" for _ in range(20))))
+        reader = "%d/task/%d" % (program, other_thread(program))
+        step("the other one still reads", until(lambda: stat_of(reader)[0] == b"D"))
+        same("makhloeum runs", until(lambda: stat_of(p.pid)[0] == b"T", 0.5), False)
+        same("the read ends", os.path.exists(os.path.dirname(PAGE) + "/go"), False)
+        same("then makhloeum stops", os.WIFSTOPPED(os.waitpid(p.pid, os.WUNTRACED)[1]), True)
+        p.send_signal(signal.SIGCONT)
+        same("and goes on", (p.communicate()[0], p.returncode), (b"it goes on", 0))
+    else:
+        run_beside_stalled("whole", [sys.executable, ME, "whole"])
+
+
+def children_of(pid):
+    return [int(n) for n in read("/proc/%d/task/%d/children" % (pid, pid)).split()]
+
+
+OUTSIDE = (unmounted, stuck, queued, busy, killed, callers, idle, flooded, withdrawn, left, whole)
 wanted = [t for t in (*INSIDE, *OUTSIDE) if t.__name__ in sys.argv[1:] or not sys.argv[1:]]
 in_parallel(lambda t: run(t) if t in INSIDE else t(), wanted)
 finish()

@@ -257,14 +257,15 @@ def error_text(name):
 
 def full_trace():
     """The trace can't be written any more: no fork is made that is not in it."""
-    for call in ("os.fork()", "os.posix_spawn('/bin/true', ['true'], {})"):  # that is a vfork
-        fill(call)
+    for size in range(900, 948, 12):  # one of them has room for a fork, and not for its exit
+        fill("os.fork()", size)
+    fill("os.posix_spawn('/bin/true', ['true'], {})", 900)  # that is a vfork
 
 
-def fill(call):
+def fill(call, size):
     trace = os.path.join(tempfile.mkdtemp(), "trace")
     code = (
-        "import os\nmade = 0\nfor i in range(200):\n try: pid = %s\n except OSError: continue\n"
+        "import os\nmade = 0\nfor i in range(200):\n try: pid = %s\n except BlockingIOError: continue\n"
         " if pid == 0: os._exit(0)\n made += 1\n os.waitpid(pid, 0)\nstrangers = 0\n"
         "try:\n while os.waitpid(-1, 0): strangers += 1\nexcept ChildProcessError: print(made, strangers)" % call
     )
@@ -272,12 +273,41 @@ def fill(call):
         [PROGRAM, "run", "--trace", trace, sys.executable, "-c", code],
         stdout=subprocess.PIPE,
         timeout=4 * PATIENCE,
-        preexec_fn=lambda: resource.setrlimit(resource.RLIMIT_FSIZE, (900, 900)),
+        preexec_fn=lambda: resource.setrlimit(resource.RLIMIT_FSIZE, (size, size)),
     )
     told = len(re.findall(r"^fork ", open(trace).read(), re.M)) - 1
     made, strangers = map(int, ran.stdout.split())
     step("of 200 forks as many are made as the trace has room for", 5 < made <= told < 100, (made, told))
     step("the others fail before there is a child, but the first", strangers <= 1, strangers)
+
+
+REFUSED = """import errno, os
+os.mkdir("/sys/fs/cgroup/a")
+for name, value in (("pids.max", "1"), ("cgroup.procs", "0")):
+    with open("/sys/fs/cgroup/a/" + name, "w") as f:
+        f.write(value)
+found = set()
+for _ in range(100):
+    try:
+        os.fork() or os._exit(0)
+        found.add("ok")
+    except OSError as e:
+        found.add(errno.errorcode[e.errno])
+print(*found)
+"""
+
+
+def full_of_refusals():
+    """A fork that a limit refuses has the same errno when its line has no room in the trace."""
+    trace = os.path.join(tempfile.mkdtemp(), "trace")
+    ran = subprocess.run(
+        [PROGRAM, "run", "--trace", trace, sys.executable, "-c", REFUSED],
+        stdout=subprocess.PIPE,
+        timeout=4 * PATIENCE,
+        preexec_fn=lambda: resource.setrlimit(resource.RLIMIT_FSIZE, (900, 900)),
+    )
+    same("the errnos of a hundred refused forks", (ran.returncode, ran.stdout), (0, b"EAGAIN\n"))
+    step("some have room in the trace", 5 < read(trace).count(b"\nfork ") < 100)
 
 
 FORKS = """import os, sys
@@ -446,7 +476,7 @@ for test in INSIDE:
                 "cgreplay gives the same answers",
                 subprocess.run(CGREPLAY, stdin=lines, stdout=subprocess.PIPE).stdout == wanted.read(),
             )
-for test in (full_trace, almost_full, full_for_a_while, taken_hold, stalled):
+for test in (full_trace, full_of_refusals, almost_full, full_for_a_while, taken_hold, stalled):
     if not sys.argv[1:] or test.__name__ in sys.argv[1:]:
         test()
 finish()

@@ -1,6 +1,6 @@
 /* stalled DIRECTORY: a file system whose file `page` can be opened and mapped, and whose reads are never answered. Its file
-   `slow` takes a second to close; its file `asked` is there once a read has come. Reads of its file `late` are answered once
-   somebody has looked for `go`, and its file `kept` can be closed once somebody has looked for `close`; neither is there. Nor is a
+   `slow` takes a second to close; its file `asked` is there once a read has come, until somebody looks for `go`. Reads of its file `late`
+   are answered after that, and its file `kept` can be closed once somebody has looked for `close`; neither is there. Nor is a
    name that begins with `hidden`, which takes a second to look for. */
 #include <errno.h>
 #include <fuse3/fuse.h>
@@ -21,8 +21,10 @@ static int get(const char *path, struct stat *st, struct fuse_file_info *fi)
 		sleep(1);
 	if (strcmp(path, "/asked") == 0)
 		return atomic_load(&asked) ? 0 : -ENOENT;
-	if (strcmp(path, "/go") == 0)
+	if (strcmp(path, "/go") == 0) {
 		atomic_store(&let_go, true);
+		atomic_store(&asked, false);
+	}
 	if (strcmp(path, "/close") == 0)
 		atomic_store(&let_close, true);
 	static const char *const there[] = { "/", "/page", "/slow", "/late", "/kept" };

@@ -10,8 +10,8 @@ import tempfile
 import threading
 
 sys.path.insert(0, os.path.dirname(os.path.dirname(os.path.realpath(__file__))))
-from support import AT, BUILT, PATIENCE, PROGRAM, error_of, finish, inside, into, read, run_each, same, step, until
-from support import write
+from support import AT, BUILT, PATIENCE, PROGRAM, clone_into, error_of, finish, inside, into, read, run_each, same
+from support import step, until, write
 
 ME = os.path.realpath(__file__)
 TRICKS = os.path.join(BUILT, "tricks")
@@ -86,6 +86,10 @@ def peaks():
     os.wait()
     wrong = [i for i in range(50) if error_of(lambda: os.waitpid(os.posix_spawn("/bin/true", ["true"], {}), 0)) != "ok"]
     same("of fifty, one after the other at the limit, those that could not be made", wrong, [])
+    os.mkdir(AT + "/b")
+    fd = os.open(AT + "/b", os.O_RDONLY)
+    same("fifty that are born in another group", {clone_into(fd) for _ in range(50)}, {0})
+    same("their peak", read(AT + "/b/pids.peak"), b"1\n")
 
 
 STORM = (

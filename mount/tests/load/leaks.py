@@ -5,6 +5,7 @@ import itertools
 import os
 import select
 import signal
+import struct
 import subprocess
 import sys
 import threading
@@ -63,6 +64,7 @@ def of_mount():
     write(g + "/pids.max", b"1")
     os.setxattr(g, "user.x", b"x")
     held = [os.open(g + "/cgroup.events", os.O_RDONLY) for _ in range(2)]
+    many = [os.open(g + "/cgroup.events", os.O_RDONLY) for _ in range(16)]  # more than memory that was free before
     write(g + "/in/cgroup.max.depth", b"0")
     new = itertools.count()
 
@@ -115,13 +117,28 @@ def of_mount():
         error_of(os.pread, fd, 9, 0)
         os.close(fd)
 
+    def again(fd):
+        for _ in range(3):
+            os.pread(fd, 9, 0)
+
+    def woken():
+        p = select.poll()
+        for fd in many:
+            os.pread(fd, 99, 0)
+            p.register(fd, select.POLLPRI)
+        p.poll(1)
+        twice("cgroup.freeze", b"1", b"0")
+
     operations = (
         ("a fork and an exit", lambda: (write(m.control("fork"), b"1 3"), write(m.control("exit"), b"3"))),
         ("moves and a refused fork", moved),
         ("a kill", killed),
         ("an open, a read and a close", lambda: read(g + "/cgroup.procs")),
-        ("a poll", lambda: opened(g + "/cgroup.events", os.O_RDONLY, polled)),
-        ("polls of an open file", lambda: [polled(fd) for fd in held]),
+        # so many that they are more than memory that was free before
+        ("polls", lambda: [opened(g + "/cgroup.events", os.O_RDONLY, polled) for _ in range(10)]),
+        ("polls of an open file", lambda: [polled(fd) for fd in held * 10]),
+        ("polls that are woken", woken),
+        ("reads from the start", lambda: opened(g + "/memory.stat", os.O_RDONLY, again)),
         ("a watch", lambda: watched(g + "/cgroup.events")),
         ("a listing", lambda: os.listdir(m.at)),
         ("stats", lambda: (os.stat(g), os.stat(g + "/memory.stat"), error_of(os.stat, g + "/none"))),
@@ -181,7 +198,7 @@ def of_mount():
         same("%s: no descriptor is kept" % name, open_of(m.process.pid), before)
     twice("cgroup.freeze", *(b"1", b"0") * 20)
     step("the companion keeps no descriptor", until(lambda: open_of(companion) == at_rest), open_of(companion))
-    for fd in (*held, told):
+    for fd in (*held, *many, told):
         os.close(fd)
     m.end()
 
@@ -230,12 +247,14 @@ def elsewhere(procs):
 
 def inside():
     """Operations of a program with all privileges of its namespace: after each kind no process of makhloeum has more descriptors."""
-    write(AT + "/cgroup.subtree_control", b"+cpuset +pids")
     os.mkdir(AT + "/frozen")
     told = libc.inotify_init()
     libc.inotify_add_watch(told, (AT + "/frozen/cgroup.events").encode(), 2)  # IN_MODIFY
-    group = AT + "/" + "a" * 200  # what is kept with a path is more than memory that was free before
-    os.mkdir(group)
+    group = AT
+    for _ in range(15):  # what is kept with a path is more than memory that was free before
+        write(group + "/cgroup.subtree_control", b"+cpuset +pids")
+        group += "/" + "a" * 200
+        os.mkdir(group)
     write(group + "/cgroup.procs", b"0")
     home = os.path.join(os.environ.get("TMPDIR", "/tmp"), "leaks%d" % os.getpid())
     os.mkdir(home)
@@ -248,10 +267,6 @@ def inside():
             call()
             libc._exit(0)
         os.waitpid(pid, 0)
-
-    def hidden():
-        libc.prctl(4, 0, 0, 0, 0)  # PR_SET_DUMPABLE
-        libc.fstatfs(gone, buffer)
 
     def mounted():
         libc.mount(b"none", home.encode(), b"cgroup2", 0, None)
@@ -292,6 +307,23 @@ def inside():
         os.read(fd, 99)
         os.close(fd)
 
+    def beneath():
+        how = (ctypes.c_uint64 * 3)(0, 0, 8)  # RESOLVE_BENEATH
+        os.close(libc.syscall(437, top, b"self/cgroup", how, 24))
+
+    def set_option():
+        context = libc.syscall(430, b"cgroup2", 0)
+        libc.syscall(431, context, 5, b"rw", None, 0)  # FSCONFIG_SET_FD
+        os.close(context)
+
+    def filtered():
+        libc.prctl(38, 1, 0, 0, 0)  # PR_SET_NO_NEW_PRIVS
+        libc.prctl(22, 2, program, 0, 0)  # PR_SET_SECCOMP, SECCOMP_MODE_FILTER
+
+    top, etc = os.open("/proc", os.O_RDONLY), os.open("/etc", os.O_RDONLY)
+    code = ctypes.create_string_buffer(struct.pack("HBBI", 6, 0, 0, 0x7FFF0000))  # it allows all
+    program = ctypes.create_string_buffer(struct.pack("HxxxxxxP", 1, ctypes.addressof(code)))
+
     def numbers():
         """The number of a new process: tables have a place for each."""
         pid = os.fork()
@@ -314,15 +346,20 @@ def inside():
         ("opens of a text of another namespace", lambda: read(proc + "1/cgroup")),
         ("opens of oneself in another namespace", lambda: error_of(read, proc + "self/cgroup")),
         ("opens of a text of another file system", lambda: read("/etc/hostname")),
+        ("opens from a directory", lambda: os.close(os.open("hostname", os.O_RDONLY, dir_fd=etc))),
+        ("opens beneath a directory", beneath),
         ("opens of a table of mounts", lambda: read("/proc/self/mounts")),
         ("polls of a table of mounts", turned),
         ("opens of what is not there", lambda: error_of(os.open, "/proc/self/nothing", os.O_RDONLY)),
         ("statfs", lambda: (libc.statfs(AT.encode(), buffer), libc.fstatfs(gone, buffer), libc.statfs(b"/", buffer))),
-        ("a descriptor of a program that hides", lambda: forked(hidden)),
         ("mounts of cgroup2", mounted),
         ("mounts of tmpfs and FUSE", of_another),
         ("mounts that are refused", lambda: libc.mount(b"none", b"/nowhere", b"cgroup2", 0, None)),
+        ("mounts of version 1", lambda: libc.mount(b"none", home.encode(), b"cgroup", 0, None)),
         ("fsopen that is refused", lambda: libc.syscall(430, b"cgroup", 0)),
+        ("options of a mount", set_option),
+        ("fspick", lambda: os.close(libc.syscall(433, -100, AT.encode(), 0))),
+        ("filters", lambda: forked(filtered)),
         ("fsopen of cgroup2", stepwise),
         ("fsopen", lambda: os.close(libc.syscall(430, b"tmpfs", 0))),
         ("ptrace that is refused", lambda: libc.ptrace(0x4206, 1, 0, 0)),
@@ -358,10 +395,21 @@ def inside():
     os.rmdir(home)
 
 
-if sys.argv[1:] == ["inside"]:
-    inside()
+def hidden():
+    """Descriptors of a program that is not dumpable. The superuser owns what it has in /proc, who is nobody in this run."""
+    libc.prctl(4, 0, 0, 0, 0)  # PR_SET_DUMPABLE
+    buffer, fd, before = ctypes.create_string_buffer(256), os.open(AT, os.O_RDONLY), own()
+    for _ in range(max(TIMES, *before.values())):
+        libc.fstatfs(fd, buffer)
+    same("a descriptor of a program that hides: it is a cgroup2", buffer.raw[:4], b"prgc")
+    same("no descriptor is kept", own(), before)
+
+
+if sys.argv[1:2] == ["inside"]:
+    {"operations": inside, "hidden": hidden}[sys.argv[2]]()
     finish()
 of_mount()
-p = subprocess.Popen([PROGRAM, "run", "--root", "--keep", "cpuset", sys.executable, ME, "inside"])
-same("a run: its status", status_within(p, 6 * PATIENCE), 0)
+for what, options in (("operations", ("--root", "--keep", "cpuset")), ("hidden", ())):
+    p = subprocess.Popen([PROGRAM, "run", *options, sys.executable, ME, "inside", what])
+    same("a run, %s: its status" % what, status_within(p, 6 * PATIENCE), 0)
 finish()

@@ -45,6 +45,11 @@ def numbers():
         same("it is as it was", read(a + "/cgroup.freeze"), b"0\n")
     write(a + "/cgroup.freeze", b"1\n")
     same("a frozen group", (frozen(a), read(a + "/cgroup.freeze")), (FROZEN, b"1\n"))
+    write(m.control("fork"), b"1 2")
+    for group in (a, b):
+        write(group + "/cgroup.procs", b"2")
+        same("at once with a process", read(group + "/cgroup.events"), b"populated 1\n" + FROZEN)
+    write(m.control("exit"), b"2")
     same("the group below", (frozen(b), read(b + "/cgroup.freeze")), (FROZEN, b"0\n"))
     same("the other group", frozen(c), THAWED)
     write(b + "/cgroup.freeze", b"1\n")
@@ -288,15 +293,27 @@ def count():
 threading.Thread(target=count, daemon=True).start()
 ctypes.CDLL(None).syscall(60 if os.uname().machine == "x86_64" else 93, 0)
 """
+MAKER = """
+import os, threading, time
+threading.Thread(target=time.sleep, args=(600,), daemon=True).start()
+while True:
+    os.write(1, b"x")
+    time.sleep(0.002)
+"""
 
 
 def kinds():
-    """Processes that fork, make threads, vfork, and have lost their first thread."""
+    """Processes that fork, make threads, vfork, have lost their first thread, or made one thread. Another stays frozen meanwhile."""
+    os.mkdir(AT + "/still")
+    still = Counter("/still")
+    freeze("/still", 1)
+    becomes("one that stays frozen", "/still", FROZEN)
     for name, program, rounds in (
         ("forks", FORKS, 40),
         ("threads", THREADS, 10),
         ("vforks", VFORKS, 10),
         ("no first thread", LEADERLESS, 10),
+        ("maker of a thread", MAKER, 3),
     ):
         group = "/" + name.split()[0]
         os.mkdir(AT + group)
@@ -317,6 +334,8 @@ def kinds():
             continue
         step("freezes of one with " + name, False, read(AT + group + "/cgroup.events"))
         write(AT + group + "/cgroup.kill", b"1\n")
+    step("the one that stays frozen rests", still.rests())
+    still.end()
 
 
 def state(task):
@@ -490,6 +509,7 @@ def signals():
     same("a stop", os.waitpid(one.process.pid, os.WUNTRACED)[1] & 0xFF, 0x7F)
     freeze("/a", 1)
     becomes("a stopped process is frozen", "/a", FROZEN)
+    step("and the supervisor rests", rests())
     one.process.send_signal(signal.SIGCONT)
     step("continued it still rests", one.rests())
     freeze("/a", 0)

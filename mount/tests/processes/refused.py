@@ -110,7 +110,7 @@ def ways():
         ("clone3, a size without a stack", "EINVAL", lambda: clone3(0, stack_size=4096)),
         ("clone3, a stack beyond all memory", "EINVAL", lambda: clone3(0, stack=PAGES, stack_size=4096)),
         ("clone3, a stack that is the kernel's", "EINVAL", lambda: clone3(0, stack=1 << 63, stack_size=4096)),
-        ("clone3, an unknown flag", "EINVAL", lambda: clone3(1 << 40)),
+        ("clone3, an unknown flag", "EINVAL", lambda: " ".join({clone3(1 << bit) for bit in range(34, 64)})),
         ("clone3, CLONE_DETACHED", "EINVAL", lambda: clone3(0x400000)),
         ("clone3, a signal in the flags", "EINVAL", lambda: clone3(signal.SIGCHLD)),
         ("clone3, both rules for handlers", "EINVAL", lambda: clone3(1 << 32 | SIGHAND | VM)),
@@ -139,6 +139,7 @@ def ways():
         ("clone3 into a group, a thread", "ENOTSUP", lambda: thread_into(group_b)),
         ("clone3 into a group, 80 bytes", "EINVAL", lambda: clone3(INTO, 80, cgroup=group_b)),
         ("clone3 into a full group", "EAGAIN", lambda: clone3(INTO, cgroup=full)),
+        ("clone3 with namespaces", "EAGAIN", lambda: clone3(INTO | NEWUSER | NEWCGROUP, cgroup=full)),
         ("clone3 into a group, and wrong flags", "EINVAL", lambda: clone3(INTO | SIGHAND, cgroup=group_b)),
         ("fork beyond a limit of the user", "EAGAIN", lambda: beyond_processes(fork)),
         ("a thread beyond it", "EAGAIN", lambda: beyond_processes(thread)),
@@ -187,6 +188,7 @@ def births():
         room = places(name), read(AT + "/a/pids.current"), read(AT + "/b/pids.current")
         if room != (ROOM - 1, b"1\n", b"0\n"):
             same("%s: it takes no place" % name, room, (ROOM - 1, b"1\n", b"0\n"))
+    same("children of calls that failed", error_of(os.waitpid, -1, os.WNOHANG), "ECHILD")
     born = [clone3(INTO, cgroup=group_b) for _ in range(3 * ROOM)]
     same("children in the other group, one after the other", born, ["ok"] * 3 * ROOM)
     for _ in range(300):
@@ -242,6 +244,25 @@ def crowd():
     made = {p.stdout.readline() for _ in range(count)}
     same("all are made, and count", (len(made), read(AT + "/t/pids.current")), (count, b"%d\n" % (count + 1)))
     same("all are listed", len(read_all("/t/cgroup.threads").split()), count + 1)
+    supervisor, all_tasks = tracer(), os.listdir("/proc/%d/task" % p.pid)
+
+    def all_become(state):
+        """Each stays so once it is: so none is read again."""
+        others = list(all_tasks)
+
+        def are():
+            others[:] = [task for task in others if stat_of("%d/task/%s" % (p.pid, task))[0] != state]
+            return not others
+
+        return until(are)
+
+    os.kill(supervisor, signal.SIGSTOP)
+    step("the supervisor is stopped", until(lambda: stat_of(supervisor)[0] == b"T"))
+    for task in all_tasks:
+        libc.tgkill(p.pid, int(task), signal.SIGWINCH)  # which they ignore
+    step("each of them stops", all_become(b"t"))
+    os.kill(supervisor, signal.SIGCONT)
+    step("each goes on", all_become(b"S"))
     p.kill()
     same("it is killed", p.wait(PATIENCE), -signal.SIGKILL)
     step("none counts once they have ended", until(lambda: read(AT + "/t/pids.current") == b"0\n"))
@@ -251,6 +272,11 @@ def crowd():
     same("there is room for two threads", (thread(), thread()), ("ok", "ok"))
     step("which end", until(lambda: read(AT + "/t/pids.current") == b"1\n"))
     same("and for two children", places(""), 2)
+
+
+def stat_of(task):
+    """The words of /proc/TASK/stat after the name: the state first."""
+    return read("/proc/%s/stat" % task).rpartition(b")")[2].split()
 
 
 def read_all(name):
@@ -292,6 +318,9 @@ def unused():
     same("a thread's", (thread(), read(AT + "/.makhloeum/newest")), ("EAGAIN", newest))
     write(AT + "/.makhloeum/undo", b"1")
     same("is undone alone", read(AT + "/a/pids.events"), b"max 2\n")
+    write(AT + "/.makhloeum/fork", b"1 4194303")
+    same("a fork, while that number is in use", fork(), "EAGAIN")
+    same("has the next one", read(AT + "/.makhloeum/newest"), b"fork %d 4194302\n" % os.getpid())
 
 
 def told():

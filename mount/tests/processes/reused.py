@@ -1,6 +1,8 @@
 """Numbers of processes and threads that are used again at once. In a PID namespace of its own this test says which number comes next
 (ns_last_pid), so it does not wait for the numbers to wrap around. This file is also the program (reused.py inside NAME)."""
 import os
+import resource
+import select
 import signal
 import socket
 import subprocess
@@ -16,6 +18,7 @@ from support import tracer, until, write
 
 ME = os.path.realpath(__file__)
 TRIES = 50  # another process of the namespace may take the number
+FEW = 100  # descriptors, of which the server leaves 64 to itself
 HELD_KILL = os.path.join(os.path.dirname(PROGRAM), "held_kill.so")  # only with the plain build
 asks = socket.socket(fileno=int(os.environ["ASKS"])) if "ASKS" in os.environ else None
 
@@ -180,6 +183,88 @@ def threads():
     step("and nobody is left", until(lambda: (numbers("/b"), count("/b")) == ([me], 1)))
 
 
+def again():
+    """Numbers that are used again many times."""
+    os.mkdir(AT + "/a")
+    into("/a")
+    for _ in range(40):
+        reused("a thread", lambda: Thread().end(), lambda: Thread().number, lambda _: Thread.newest.end())
+        Thread.newest.end()
+        end(reused("a process", lambda: end(born()), born, end))
+    step("nobody is left", until(lambda: (numbers("/a"), count("/a")) == ([os.getpid()], 1)))
+
+
+def allowed():
+    """What a process was allowed in advance ends with it: the next one of its number makes no thread and no child in a group that is
+    full. Between the two no call reaches the hierarchy, which would withdraw it."""
+    for g in ("/a", "/b"):
+        os.mkdir(AT + g)
+    into("/b")
+    write(AT + "/b/pids.max", b"2")
+    events, poller = os.open(AT + "/b/pids.events", os.O_RDONLY), select.poll()
+    poller.register(events, select.POLLPRI)
+
+    def makes():
+        os.waitpid(os.fork() or os._exit(0), 0)
+        Thread()
+        os._exit(0)
+
+    def ended():
+        os.pread(events, 99, 0)
+        pid = child("/a", makes)
+        os.waitpid(pid, 0)
+        return pid
+
+    r, w = os.pipe()
+
+    def tries():
+        try:
+            make()
+            os.write(w, b"made")
+        except (OSError, RuntimeError):
+            os.write(w, b"refused")
+        signal.pause()
+
+    for name, make in (("a thread", Thread), ("a child", os.fork)):
+        got = []
+        pid = reused(name, ended, lambda: (born(tries), got.append(os.read(r, 9)))[0], end)
+        same("%s of the next one" % name, got[-1], b"refused")
+        same("%s: who polls is told" % name, len(poller.poll(0)), 1)
+        end(pid)
+    os.close(events)
+
+
+def unseen():
+    """A zombie for which the server has no descriptor is waited for, and the next child has its number, without a question before."""
+    os.mkdir(AT + "/a")
+    into("/a")
+
+    def ended():
+        made = [born(lambda: os._exit(0)) for _ in range(FEW)]
+        for pid in made:
+            os.waitid(os.P_PID, pid, os.WEXITED | os.WNOWAIT)
+        return made
+
+    zombies = ended()
+    same("all are zombies", (numbers("/a"), count("/a")), ([os.getpid()], FEW + 1))
+    for each in zombies:
+        os.waitpid(each, 0)
+    same("then none", count("/a"), 1)
+    zombies = ended()
+
+    def waited():
+        pid = born(lambda: os._exit(0))
+        os.waitpid(pid, 0)
+        return pid
+
+    pid = reused("a zombie", waited, born, end)
+    same("it is there", (numbers("/a"), count("/a")), (sorted((os.getpid(), pid)), FEW + 2))
+    for each in zombies:
+        os.waitpid(each, 0)
+    end(pid)
+    same("all are waited for", (numbers("/a"), count("/a")), ([os.getpid()], 1))
+
+
 def killing():
     """A process that a kill is about to reach ends meanwhile. Whoever has its number next is not reached. The server that kills is stopped."""
     held, server = os.environ["HELD_KILL"], server_and_helper(tracer())[0]
@@ -205,6 +290,9 @@ def killing():
     # would come soon. Until the file is gone this process makes no thread and no child: they would wait for the supervisor.
     soon = time.monotonic() + 1
     step("the second ends", until(lambda: follower.got or (time.monotonic() > soon and waits_of() > before + 20)))
+    os.kill(tracer(), signal.SIGSTOP)  # it ends the wait of the supervisor, which begins again
+    step("the supervisor is stopped", until(lambda: b"T" in read("/proc/%d/stat" % tracer()).split()[:3]))
+    os.kill(tracer(), signal.SIGCONT)
     os.kill(server, signal.SIGSTOP)  # the supervisor that waits for it has to continue it
     os.unlink(held + ".hold")
     same("the kill ends", kill.result(), "done")
@@ -249,7 +337,7 @@ def companion():
     same("another has its number", int(asks.recv(16)), found[0])
 
 
-INSIDE = (processes, threads, killing, unheard, companion)
+INSIDE = (processes, threads, again, allowed, unseen, killing, unheard, companion)
 WITH_HELD_KILL = (killing, unheard)
 inside(*INSIDE)
 
@@ -277,7 +365,8 @@ def run(test):
     env = dict(os.environ, ASKS=str(theirs.fileno()))
     if test in WITH_HELD_KILL:
         env.update(LD_PRELOAD=HELD_KILL, HELD_KILL=os.path.join(tempfile.mkdtemp(), "kill"))
-    p = subprocess.Popen(words, pass_fds=(theirs.fileno(),), env=env)
+    few = (lambda: resource.setrlimit(resource.RLIMIT_NOFILE, (FEW, FEW))) if test is unseen else None
+    p = subprocess.Popen(words, pass_fds=(theirs.fileno(),), env=env, preexec_fn=few)
     theirs.close()
     strangers = []
     while word := own.recv(32):

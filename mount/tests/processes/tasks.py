@@ -3,6 +3,7 @@ of this machine's kernel (tasks.py kernel). This file is also the program (tasks
 import contextlib
 import os
 import random
+import re
 import resource
 import shutil
 import signal
@@ -337,6 +338,10 @@ def killed():
     t.make(4)
     u = Tasks(a, "other")
     same("two processes with seven threads", a.current(), 7)
+    child = t.ask("fork")
+    os.kill(child, signal.SIGKILL)
+    step("and a zombie", until(lambda: open("/proc/%d/stat" % child).read().rpartition(")")[2].split()[0] == "Z"))
+    same("all count", a.current(), 8)
     a.write("cgroup.kill", 1)
     same("both are killed", (t.process.wait(PATIENCE), u.process.wait(PATIENCE)), (-9, -9))
     becomes("nobody is left", a.current, 0)
@@ -386,6 +391,9 @@ def born_elsewhere():
     thread = t.ask("thread-into", a.top)
     same("but in its own", (type(thread), thread in a.threads()), (int, True))
     same("it counts", a.current(), 6 if a.top == a.pids else 7)
+    if a.top == a.pids:
+        a.write("pids.max", 6)
+        same("one that its limit refuses is counted", (t.ask("thread-into", a.top), a.refused()), ("EAGAIN", 1))
     os.kill(child, signal.SIGKILL)
     t.end()
     finally_empty(a)
@@ -661,11 +669,11 @@ def uncounted():
 
 
 def many():
-    """More births than there may be at once, one after another: their tickets take the places of those before."""
+    """More births than those that have the table's last places: the next ones take the first places."""
     a = (top / "a").make()
     t = Tasks(a)
-    same("70,000 threads", type(t.ask("churn", "70000")), int)
-    same("one is left", a.current(), 1)
+    same("100 threads", type(t.ask("churn", "100")), int)
+    step("one is left", until(lambda: a.current() == 1), a.current())
     same("another thread and a child", [type(t.ask(what)) for what in ("thread", "fork")], [int, int])
     same("they are counted", a.current(), 3)
     a.write("cgroup.kill", 1)
@@ -687,12 +695,16 @@ def full():
         here, there = there, here
     same("a move fails", error, "EFBIG")
     same("all threads are where they were", (here.threads(), there.threads()), (every, []))
-    made = []
+    made, forked = [], []
     while len(made) < 40 and "EAGAIN" not in made:
         made.append(t.ask("thread"))
+        forked.append(t.ask("fork"))
     step("soon no thread is made", "EAGAIN" in made, made)
-    counted = len(here.threads()) - len(every)
-    step("at most nine of them, allowed before, are not counted", 0 <= len(made) - 1 - counted <= 9, (made, counted))
+    counted, uncounted = set(here.threads()), lambda all_of: set(all_of) - counted - {"EAGAIN"}
+    step(
+        "at most one of them, before a fork that finds the trace full, is not counted", len(uncounted(made)) <= 1, made
+    )
+    same("each child is counted", uncounted(forked), set())
     t.end()
 
 
@@ -736,6 +748,9 @@ def run(test, room=None):
     text = open(trace).read()
     if test is five:
         step("the trace has a fork of each thread", text.count("\nfork ") >= 6, text)
+    if test is limited:
+        of_nobody = re.findall(r"^.* 41943\d\d$", text, re.M)
+        step("a refused fork is one line", of_nobody and all(x.startswith("fork ") for x in of_nobody), of_nobody)
     if test is killed:
         after = text.split("cgroup.kill 1\n")[1].split("\nfork ")[0]
         step("whom a kill has reached does not end once more", "\nexit " not in after, after)

@@ -6,13 +6,14 @@ import mmap
 import os
 import select
 import signal
+import subprocess
 import sys
 import threading
 import time
 
 sys.path.insert(0, os.path.dirname(os.path.dirname(os.path.realpath(__file__))))
 from support import AT, PATIENCE, clone_into, error_of, finish, inside, into, is_alive, libc, own_of, read, run_each
-from support import same, step, ticks, until, write
+from support import same, spared, step, ticks, until, write
 
 MADV_POPULATE_READ = 22  # Linux 5.14
 
@@ -292,23 +293,50 @@ def work(forks=500):
     return ticks() - before
 
 
+def reads(fd, times=2000):
+    before = ticks()
+    for _ in range(times):
+        os.pread(fd, 99, 0)
+    return ticks() - before
+
+
+def most(first):
+    return 2 * first + 15
+
+
+def least(call, before):
+    """Of a few tries: on a busy machine one may cost more. A try that is cheap enough, beside the first of those before, is the last."""
+    got = call()
+    for _ in range(4):
+        if not before or got <= most(before[0]):
+            break
+        got = min(got, call())
+    return got
+
+
 def many():
-    """Beside two thousand zombies, of its own group or of another, a fork is as much work as before, also in a watched group."""
-    found = []
+    """Beside two thousand zombies, of its own group or of another, a fork is as much work as before, also in a watched group. So is a
+    read, since Linux 6.9, which tells which of them was waited for."""
+    found, looked = [], []
     for group in ("/a", "/b"):
         os.mkdir(AT + group)
         into(group)
         same("it is populated", read(AT + group + "/cgroup.events"), b"populated 1\nfrozen 0\n")
+    fd = os.open(AT + "/a/pids.current", os.O_RDONLY)
     for group in ("/b", "/a", "/b"):
         into(group)
-        found.append(work())
+        found.append(least(work, found))
+        looked.append(least(lambda: reads(fd), looked))
         if len(found) == 1:
             into("/a")
             for _ in range(2000):
                 if os.fork() == 0:
                     os._exit(0)
-    step("in the group of the zombies", found[1] <= 2 * found[0] + 15, found)
-    step("in another one", found[2] <= 2 * found[0] + 15, found)
+    step("in the group of the zombies", found[1] <= most(found[0]), found)
+    step("in another one", found[2] <= most(found[0]), found)
+    kernel = os.environ.get("OLD_KERNEL", os.uname().release).split(".")
+    if (int(kernel[0]), int(kernel[1].partition("-")[0])) >= (6, 9):
+        step("and each read", looked[2] <= most(looked[0]), looked)
 
 
 class Maker:
@@ -409,6 +437,27 @@ def unborn():
     being_made(ends)
 
 
+def outlived():
+    """A parent is killed when its child has just been made: the supervisor finds its death before it hears of the birth. The child lives."""
+    maker, child = Maker(), None
+    while not child and maker.turn < 600:
+        if maker.begins():
+            (child,) = maker.children()
+            os.kill(maker.pid, signal.SIGKILL)
+            step("its parent has ended", until(lambda: b"Z" in read("/proc/%d/stat" % maker.pid).split()[:3]))
+            maker.goes_on()
+        else:
+            maker.goes_on()
+            maker.came_to()
+            maker.ends_child()
+    step("there was such a child, in %d turns" % maker.turn, child)
+    same("the end of its parent", os.waitpid(maker.pid, 0)[1], signal.SIGKILL)
+    step("it is listed", until(lambda: maker.listed() == {child}), maker.listed())
+    same("and lives", (is_alive(child), count("/p")), (True, 1))
+    os.kill(child, signal.SIGKILL)
+    step("then nobody counts", until(lambda: count("/p") == 0), count("/p"))
+
+
 def meanwhile(maker, change, back, wanted, counted):
     """What becomes of a child whose group is changed while it is being made: what the call comes to, and who counts."""
     is_between = False
@@ -454,6 +503,44 @@ def kept():
     same("its line", [line for line, _ in lines], [b"fork %d %d\n" % pids for _, pids in lines])
 
 
+def killed_elsewhere():
+    """A kill of the group that a process was moved to, while it makes a child, reaches the child too. If the process has ended before the
+    supervisor reads of the child, the child is one that was made before the move, and lives: then it is tried again."""
+    os.mkdir(AT + "/q")
+    lives, tries = True, 0
+    while lives and tries < 20:
+        maker, children = Maker(is_inside=True), []
+        while not children and maker.turn < 600:
+            if maker.begins():
+                children = maker.children()
+                write(AT + "/q/cgroup.procs", b"%d" % maker.pid)
+                write(AT + "/q/cgroup.kill", b"1")
+            maker.goes_on()
+            if not children:
+                maker.came_to()
+                maker.ends_child()
+        step("there was such a child, in %d turns" % maker.turn, children)
+        same("its parent is killed", os.waitpid(maker.pid, 0)[1], signal.SIGKILL)
+        step("it is listed or ends", until(lambda: maker.listed() or not any(map(is_alive, children))))
+        lives, tries = any(map(is_alive, children)), tries + 1
+        for pid in filter(is_alive, children):
+            os.kill(pid, signal.SIGKILL)
+        step("in the end nobody counts", until(lambda: (count("/p"), count("/q")) == (0, 0)))
+        step("the group can be removed", until(lambda: error_of(os.rmdir, AT + "/p") == "ok"))
+    step("it does not live, in %d tries" % tries, not lives)
+
+
+def stranger():
+    """A number that is forked in the hierarchy alone is no process of the run, whoever else has it: no kill reaches that."""
+    number = int(os.environ["STRANGER"])
+    os.mkdir(AT + "/p")
+    write(AT + "/.makhloeum/fork", b"1 %d" % number)
+    write(AT + "/p/cgroup.procs", b"%d" % number)
+    same("it counts", count("/p"), 1)
+    write(AT + "/p/cgroup.kill", b"1")
+    same("the kill takes it out, and ends nobody", (count("/p"), spared(number)), (0, [True]))
+
+
 def gone():
     """A child for a group that is removed while it is being made has no place."""
     meanwhile(Maker(), lambda: os.rmdir(AT + "/p"), lambda: os.mkdir(AT + "/p"), "ENOENT", 0)
@@ -471,11 +558,17 @@ INSIDE = (
     many,
     born,
     unborn,
+    outlived,
     lowered,
     lowered_inside,
     kept,
+    killed_elsewhere,
+    stranger,
     gone,
 )
 inside(*INSIDE)
-run_each(dict.fromkeys(INSIDE, ["--control"]), lanes=3)
+with subprocess.Popen(["sleep", "6000"], preexec_fn=lambda: libc.prctl(1, 9)) as other:  # it ends with this process
+    os.environ["STRANGER"] = str(other.pid)
+    run_each(dict.fromkeys(INSIDE, ["--control"]), lanes=3)
+    other.kill()
 finish()

@@ -542,6 +542,12 @@ static void install_twice(void)
 	install(0);
 	install(0);
 }
+static void install_after_a_refusal(void)
+{
+	install(0);
+	prctl(PR_SET_SECCOMP, SECCOMP_MODE_STRICT, 0, 0, 0);
+	install(0);
+}
 static void install_with_unknown_flags(void)
 {
 	install(1L << 30);
@@ -639,11 +645,12 @@ static void modes(void)
 		void (*call)(void);
 	} all[] = { { "a filter", install_here }, { "by prctl", install_by_prctl }, { "for all threads", install_for_all },
 		{ "with a log", install_with_a_log }, { "two filters", install_twice },
-		{ "unknown flags", install_with_unknown_flags }, { "no filter", install_nothing },
-		{ "of another thread", install_in_a_thread }, { "of another for all", install_for_all_in_a_thread },
-		{ "of a child", install_in_a_child }, { "before a fork", fork_after_it },
-		{ "before a thread", ask_in_a_thread_after_it }, { "a thread without", ask_in_a_thread_before_it },
-		{ "before an exec", execute_after_it }, { "before a thread's exec", execute_in_a_thread_after_it },
+		{ "a filter after that was refused", install_after_a_refusal }, { "unknown flags", install_with_unknown_flags },
+		{ "no filter", install_nothing }, { "of another thread", install_in_a_thread },
+		{ "of another for all", install_for_all_in_a_thread }, { "of a child", install_in_a_child },
+		{ "before a fork", fork_after_it }, { "before a thread", ask_in_a_thread_after_it },
+		{ "a thread without", ask_in_a_thread_before_it }, { "before an exec", execute_after_it },
+		{ "before a thread's exec", execute_in_a_thread_after_it },
 		{ "of the thread that execs", execute_in_a_thread_that_has_it },
 		{ "of the first thread while another execs", execute_in_a_thread_without_it },
 		{ "no filter, but the first thread is strict", execute_while_the_first_is_strict } };
@@ -747,8 +754,9 @@ static long add(const struct sock_filter *code, size_t count, bool by_prctl)
 {
 	const struct sock_fprog program = { (unsigned short)count, (struct sock_filter *)(size_t)code };
 	prctl(PR_SET_NO_NEW_PRIVS, 1, 0, 0, 0);
-	return by_prctl ? prctl(PR_SET_SECCOMP, SECCOMP_MODE_FILTER, &program, 0, 0)
-					: syscall(SYS_seccomp, SECCOMP_SET_MODE_FILTER, 0, &program);
+	return by_prctl
+		? prctl(PR_SET_SECCOMP, SECCOMP_MODE_FILTER, &program, 0, 0)
+		: syscall(SYS_seccomp, SECCOMP_SET_MODE_FILTER | 1UL << 32, 0, &program); /* the kernel takes an int */
 }
 
 static void makes_children(void)

@@ -360,6 +360,12 @@ def others():
         libc.mount(b"none", at.encode(), b"tmpfs", 0, ctypes.c_void_p(memory + page - before))
         same("options %d bytes before the end of memory" % before, os.stat(at).st_mode & 0o777, 0o750)
         libc.umount2(at.encode(), DETACH)
+    for options, wanted in ((b"mode=711,nosuch=1", -1), (b"mode=750", 0)):
+        ctypes.memmove(memory + page - len(options), options, len(options))
+        for _ in range(6):  # the helper has several threads, each with what it read before
+            got = libc.mount(b"none", at.encode(), b"tmpfs", 0, ctypes.c_void_p(memory + page - len(options)))
+            same("options up to the end of memory: %s" % options.decode(), got, wanted)
+            libc.umount2(at.encode(), DETACH)
     for source, kind, flags in ((b"x", b"tmpfs", 0), ((home + "/low").encode(), None, BIND)):
         got = libc.mount(source, at.encode(), kind, 0xC0ED0000 | flags, None), os.listdir(at)
         same("an old mark in the flags, and %#x" % flags, got, (0, ["here"] if flags else []))
@@ -584,15 +590,18 @@ def confined():
     home = tempfile.mkdtemp()
     os.mkdir(home + "/proc")
     same("a second /proc", libc.mount(b"/proc", (home + "/proc").encode(), None, BIND | REC, None), 0)
+    os.mkdir(home + "/again")
+    same("a second mount of the root", libc.mount(home.encode(), (home + "/again").encode(), None, BIND, None), 0)
+    names = "/proc/self/cgroup", "/../proc/self/cgroup", "/proc/../../proc/self/cgroup", "/again/../proc/self/cgroup"
     r, w = os.pipe()
     pid = os.fork()
     if pid == 0:
         os.chroot(home)
-        for name in ("/proc/self/cgroup", "/../proc/self/cgroup", "/proc/../../proc/self/cgroup"):
+        for name in names:
             os.write(w, read(name))
         os._exit(0)
     os.waitpid(pid, 0)
-    same("each has its group", os.read(r, 999), b"0::/a\n" * 3)
+    same("each has its group", os.read(r, 999), b"0::/a\n" * len(names))
 
 
 def magic_of(call, where):
@@ -1029,6 +1038,8 @@ def configured(at=AT):
     same("read, write and lseek", got, ["ENODATA", "EINVAL", "ESPIPE"])
     same("its permissions", os.fstat(fd).st_mode & 0o777, 0o600)
     same("writes of any size", {error_of(os.write, fd, bytes(size)) for size in range(1, 99)}, {"EINVAL"})
+    messages = [b"makhloeum: step" + more for more in (b"", b"\0x", b"\0" * 99, b"\7", b"\xff")]
+    same("messages of another size, or of no step", {error_of(os.write, fd, each) for each in messages}, {"EINVAL"})
     same("not made yet", (called(FSMOUNT, fd, 0, 0), configure(fd, RECONFIGURE)), ("EINVAL", "EBUSY"))
     wrong = [called(FSMOUNT, fd, *words) for words in ((2, 0), (0, 1 << 30), (0, 0x100000), (0, 0x30), (0, 0x60))]
     same("wrong flags and attributes", wrong, ["EINVAL"] * 5)
@@ -1054,6 +1065,7 @@ def configured(at=AT):
         ((SET_STRING, b"source"), "EINVAL"),
         ((SET_STRING, b"nsdelegate", b"1"), "EINVAL"),
         ((SET_STRING, b"rw", b"1"), 0),
+        ((SET_STRING, b"source", b"other"), "EINVAL"),
         ((SET_STRING, b"rw", b"1" * 255), 0),
         ((SET_STRING, b"rw", b"1" * 256), "EINVAL"),
         ((SET_STRING, b"rw", b"1", 1), "EINVAL"),
@@ -1260,17 +1272,17 @@ def apart():
     home = tempfile.mkdtemp()
     os.mkdir(home + "/at")
     os.mkfifo(home + "/go")
-    script = """mount --make-rshared /
-"$0" run sh -c 'echo; read x < go; grep -c " $1 " /proc/self/mounts; ls $1' sh "$1" >out &
+    script = """mkdir sub && mount -t tmpfs none sub && mkdir sub/at && mount --make-rshared /
+"$0" run sh -c 'echo; read x < go; grep -c " $1 " /proc/self/mounts; ls $1 sub/at' sh "$1" >out &
 until [ -s out ]; do sleep 0.05; done
-mount -t tmpfs none "$1" && echo x >"$1/later" && echo >go && wait $! ; cat out"""
+for at in "$1" sub/at; do mount -t tmpfs none $at && echo x >$at/later; done; echo >go && wait $! ; cat out"""
     ran = subprocess.run(
         ["unshare", "-Urm", "sh", "-c", script, PROGRAM, home + "/at"],
         cwd=home,
         stdout=subprocess.PIPE,
         timeout=4 * PATIENCE,
     )
-    same("mounts of the machine that came later", ran.stdout, b"\n0\n")
+    same("mounts of the machine that came later", ran.stdout, b"\n0\n%s/at:\n\nsub/at:\n" % home.encode())
 
 
 INSIDE = (

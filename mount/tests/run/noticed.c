@@ -287,8 +287,11 @@ int main(int argc, char **argv)
 	int number = argc > 2 ? atoi(argv[2]) : 0;
 	if (strcmp(what, "pidfds") == 0)
 		return pidfds();
-	if (strcmp(what, "registers") == 0)
+	if (strcmp(what, "registers") == 0) {
+		registers();
+		filter(SYS_uname, SECCOMP_RET_ALLOW); /* of the program's own */
 		return registers();
+	}
 	if (strcmp(what, "zombies") == 0) {
 		ours = argv + 3;
 		return zombies(number);

@@ -2,6 +2,8 @@
 (noticed.py inside NAME)."""
 import ctypes
 import errno
+import fcntl
+import glob
 import mmap
 import os
 import resource
@@ -14,7 +16,8 @@ import tempfile
 
 sys.path.insert(0, os.path.dirname(os.path.dirname(os.path.realpath(__file__))))
 from support import AT, BUILT, PATIENCE, PROGRAM, Beside, Mount
-from support import error_of, finish, in_parallel, inside, libc, own_of, read, same, step, write
+from support import error_of, finish, in_parallel, inside, libc, own_of, read, same, server_and_helper, step, tracer
+from support import until, write
 
 ME = os.path.realpath(__file__)
 NOTICED, INTERRUPTS = os.path.join(BUILT, "noticed"), os.path.join(BUILT, "interrupts")
@@ -266,6 +269,11 @@ def untold():
         always = select.POLLIN | select.POLLOUT | select.POLLRDNORM | select.POLLWRNORM
         same("a poll of %s" % name, ready.poll(0), [(fd, always)])
         os.close(fd)
+    for name in ("self/cgroup", "self/cpuset", "self/mounts", "cgroups"):
+        fd = os.open("/proc/" + name, os.O_RDONLY)
+        got = fcntl.fcntl(fd, fcntl.F_GETFL) & os.O_ACCMODE, error_of(os.write, fd, b"x")
+        same("a write to %s" % name, got, (os.O_RDONLY, "EBADF"))
+        os.close(fd)
 
 
 def kept():
@@ -278,6 +286,9 @@ def kept():
         os.close(os.open("/proc/self/mounts", os.O_RDONLY))
     same("tables of before", {name: os.pread(fd, 1 << 20, 0) for name, fd in held.items()}, first)
     same("nothing has changed", polled.poll(0), [])
+    server = glob.glob("/proc/%d/task/*/stat" % server_and_helper(tracer())[0])
+    states = lambda: {open(name).read().rpartition(")")[2].split()[0] for name in server}
+    step("the server rests", until(lambda: all(states() == {"S"} for _ in range(20))), states())
     home = tempfile.mkdtemp().encode()
     libc.mount(b"x", home, b"tmpfs", 0, None)
     same("they show what is new", [home in os.pread(fd, 1 << 20, 0) for fd in held.values()], [True] * 3)

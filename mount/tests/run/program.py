@@ -210,6 +210,15 @@ def clones():
     os.kill(pid, signal.SIGKILL)
     os.waitpid(pid, 0)
     same("the group is empty", read(AT + "/c/pids.current"), b"0\n")
+    for group in ("/longer", "/long"):
+        os.mkdir(AT + group)
+        args[10] = os.open(AT + group, os.O_RDONLY)
+        pid = libc.syscall(435, args, 88)
+        if pid == 0:
+            libc._exit(0)
+        os.waitpid(pid, 0)
+        same("a child in %s" % group, read(AT + group + "/pids.peak"), b"1\n")
+        os.close(args[10])
     numbers = (ctypes.c_int * 3)(-1, -1, -1)
     at = [ctypes.addressof(numbers) + 4 * i for i in range(3)]
     for name, flags, fields in (
@@ -477,10 +486,12 @@ def running(command):
 
 
 def soon():
-    """A run ends with its program, since its server ends with the mount. Without that it would wait for a second."""
+    """A run ends with its program, since it kills what that left, and its server ends with the mount. Without that it would wait for
+    seconds."""
     took = []
     while len(took) < 20 and (not took or took[-1] >= 0.9):  # a busy machine takes long
-        p = subprocess.Popen([PROGRAM, "run", "date", "+%s.%N"], stdout=subprocess.PIPE, text=True)
+        words = [PROGRAM, "run", "sh", "-c", "sleep 600 & exec date +%s.%N"]
+        p = subprocess.Popen(words, stdout=subprocess.PIPE, text=True)
         told = p.communicate(timeout=PATIENCE)[0]
         took.append(time.time() - float(told))
     step("a run ends soon after its program", took[-1] < 0.9, took)
@@ -603,7 +614,9 @@ def refused_here():
         "user namespaces": "echo 0 > /proc/sys/user/max_user_namespaces",
         "FUSE": "mount --bind /dev/null /dev/fuse",
     }
-    for what, how, *options in [*deny.items(), ("user namespaces", deny["user namespaces"], "--users")]:
+    nested = ("a user namespace in another", "echo 1 > /proc/sys/user/max_user_namespaces")
+    several = [("user namespaces", deny["user namespaces"], "--users"), (*nested, "--root"), (*nested, "--users")]
+    for what, how, *options in [*deny.items(), *several]:
         ran = subprocess.run(
             ["unshare", "-Urm", "sh", "-c", how + ' && exec "$0" run "$@" true', PROGRAM, *options],
             stderr=subprocess.PIPE,

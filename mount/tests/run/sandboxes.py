@@ -33,6 +33,8 @@ writev""".split()
 UNNEEDED = "capset chdir dup2 move_mount move_pages pipe2 ppoll setns setpgid setsid".split()
 # Without these `mount` says why it does not begin; without all others it is there.
 NEEDED_BY_MOUNT = "chdir clone clone3 mount pipe2 readlink rt_sigaction socketpair writev".split()
+# Of those whose errno it says. Threads, mounts and handlers of signals are libfuse's, which keeps no errno.
+NAMED_BY_MOUNT = set(NEEDED_BY_MOUNT) - {"clone3", "mount", "rt_sigaction"}
 
 
 def ran(*words, **how):
@@ -71,25 +73,32 @@ MOUNTS = """at=$1; shift; "$@" "$at"; status=$?; [ -e "$at/cgroup.procs" ] && ec
 until umount "$at" 2>/dev/null || ! mountpoint -q "$at"; do sleep 0.1; done; exit $status"""
 
 
-def mounts(name, before, is_refused=None, options=()):
-    """`mount` is there when it returns 0, and else says why as its last sentence."""
+def mounts(name, before, is_refused=None, options=(), why=""):
+    """`mount` is there when it returns 0, and else says why as its last sentence, which ends in `why`."""
     at = tempfile.mkdtemp()
     namespace = ("unshare", "--user", "--map-root-user", "--mount", "sh", "-c", MOUNTS, "sh", at)
     status, text, said = ran(*namespace, *before, PROGRAM, "mount", *options)
     is_there = status == 0 and text == "is there\n" and said == ""
     is_not = status in (1, 2) and text == "" and is_one_sentence(said[said.find("makhloeum: ") :])
+    is_not = is_not and said.endswith(why + "\n")
     step(name, is_there if is_refused is False else is_not if is_refused else is_there or is_not, (status, text, said))
     os.rmdir(at)
+
+
+def why_of(call, number):
+    return ": " + os.strerror(number) if call in NAMED_BY_MOUNT else ""
 
 
 def refused_to_mount(one):
     call, number = one
     refused = call in NEEDED_BY_MOUNT and (call, number) != ("clone3", errno.ENOSYS)
-    mounts("mount without %s, %s" % (call, errno.errorcode[number]), (SANDBOX, call, str(number)), refused)
+    name = "mount without %s, %s" % (call, errno.errorcode[number])
+    mounts(name, (SANDBOX, call, str(number)), refused, why=why_of(call, number))
 
 
 def refused_in_the_foreground(call):
-    mounts("mount --foreground without %s" % call, (SANDBOX, call, str(errno.EPERM)), True, ("--foreground",))
+    before, why = (SANDBOX, call, str(errno.EPERM)), why_of(call, errno.EPERM)
+    mounts("mount --foreground without %s" % call, before, True, ("--foreground",), why)
 
 
 def limited(one):
@@ -108,6 +117,30 @@ def limited(one):
 
 def mounts_limited(one):
     mounts("mount with %s=%d" % one, ("prlimit", "--%s=%d" % one))
+
+
+def untouched():
+    """A run that cannot begin leaves the file of its trace as it was: without /proc it isn't known what the program would inherit."""
+    covered = (
+        "unshare",
+        "--user",
+        "--map-root-user",
+        "--mount",
+        "sh",
+        "-c",
+        'mount -t tmpfs none /proc && exec "$@"',
+        "sh",
+    )
+    with tempfile.NamedTemporaryFile("w+") as trace:
+        trace.write("old\n")
+        trace.flush()
+        for before, why in (
+            (covered, "/proc cannot be read: No such file or directory"),
+            ((SANDBOX, "kill", str(errno.EPERM)), "this machine does not allow the call kill: Operation not permitted"),
+        ):
+            got = ran(*before, PROGRAM, "run", "--trace", trace.name, "true")
+            same("why no run begins", got, (2, "", "makhloeum: %s\n" % why))
+            same("and its trace then", open(trace.name).read(), "old\n")
 
 
 def blocked():
@@ -137,8 +170,10 @@ without = [call for call in every if call not in ("umount2", "poll", "wait4", "g
 in_parallel(refused_to_mount, [(call, number) for call in without for number in ERRORS], lanes=4)
 in_parallel(refused_in_the_foreground, [call for call in NEEDED_BY_MOUNT if call != "pipe2"], lanes=4)
 for each in ERRORS:
-    mounts("mount --adopt without epoll_create1", (SANDBOX, "epoll_create1", str(each)), True, ("--adopt",))
+    before, why = (SANDBOX, "epoll_create1", str(each)), ": " + os.strerror(each)
+    mounts("mount --adopt without epoll_create1", before, True, ("--adopt",), why)
 in_parallel(limited, [("nproc", n) for n in range(1, 41)] + [("nofile", n) for n in range(4, 41)], lanes=4)
 in_parallel(mounts_limited, [("nproc", n) for n in range(3, 15)] + [("nofile", n) for n in range(4, 21)], lanes=4)
+untouched()
 blocked()
 finish()

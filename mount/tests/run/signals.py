@@ -12,12 +12,15 @@ from support import PROGRAM, Beside, Mount, error_of, finish, libc, line_of
 from support import is_alive, own_of, same, status_within, step, until
 
 # What the first process of a run does. It says a line when it has handled a signal.
-BEGINS = """import collections, ctypes, os, signal, sys
+BEGINS = """import collections, ctypes, os, signal, sys, time
 heard, told = os.pipe()
 os.set_blocking(told, False)
 signal.set_wakeup_fd(told, warn_on_full_buffer=False)  # gets a byte for each signal: python itself calls a handler once for several
 def count(*_):
     pass
+def rest():
+    while True:
+        time.sleep(0.05)  # a signal that comes just before signal.pause() would be handled after it
 def say(text):
     os.write(1, (text + "\\n").encode())
 def passed():
@@ -53,8 +56,7 @@ for number in range(1, 65):
         os.kill(0, number)
     passed()
     say("%d" % number)
-while True:
-    signal.pause()
+rest()
 """
 
 ALL = """
@@ -62,8 +64,7 @@ for number in range(1, 65):
     if number not in (9, 19, 32, 33, signal.SIGUSR2, signal.SIGCHLD):
         signal.signal(number, lambda number, _: (passed(), say(str(number))))
 say("ready")
-while True:
-    signal.pause()
+rest()
 """
 
 
@@ -222,11 +223,10 @@ for number in range(1, 65):
     theirs.send(b"x")
 passed()  # one that still waits would be one with that of the same number which the test sends
 say("ready")
-while True:
-    signal.pause()
+rest()
 """
     )
-    run = Run(code.replace("while True:\n    signal.pause()\n", "", 1))
+    run = Run(code.replace("rest()\n", "", 1))
     same("it runs", run.line(), "ready\n")
     run.settle()
     run.ends("signals of the kernel", [])
@@ -246,8 +246,7 @@ if child == 0:
     os._exit(0)
 os.setpgid(0, 0)
 say("ready")
-while True:
-    signal.pause()
+rest()
 """
     read, write = os.pipe()
     p = subprocess.Popen(
@@ -266,6 +265,25 @@ while True:
     p.stdout.close()
     os.close(read)
     os.close(write)
+
+
+def another():
+    """A signal to another process of the run is none to the first: one that the same sender sends to makhloeum then is passed on."""
+    code = """
+pid = os.fork()
+if pid == 0:
+    signal.set_wakeup_fd(-1)
+    signal.signal(signal.SIGTERM, lambda *_: (say("another has it"), os._exit(0)))
+    say(str(os.getpid()))
+    rest()
+"""
+    run = Run(code + ALL)
+    child = next(int(line) for line in sorted(run.line() for _ in range(2)) if line != "ready\n")
+    os.kill(child, signal.SIGTERM)
+    same("a signal to another process", run.line(), "another has it\n")
+    os.kill(run.p.pid, signal.SIGTERM)
+    same("then to makhloeum", run.line(), "15\n")
+    run.ends("another process", [(signal.SIGTERM, 1)])
 
 
 def often():
@@ -296,8 +314,7 @@ signal.signal(signal.SIGTERM, lambda *_: say("TERM"))
 signal.signal(signal.SIGUSR1, lambda *_: (signal.pthread_sigmask(signal.SIG_UNBLOCK, [signal.SIGTERM]), say("unblocked")))
 signal.pthread_sigmask(signal.SIG_BLOCK, [signal.SIGTERM])
 say("ready")
-while True:
-    signal.pause()
+rest()
 """
     for name in ("makhloeum first", "the program first"):
         run = Run(code)
@@ -381,7 +398,7 @@ def timers():
 
 
 def pending():
-    """A signal that a caller blocks and has got already when it becomes makhloeum: the program, which lets it through, gets it."""
+    """Signals that a caller blocks and has got already when it becomes makhloeum: the program, which lets them through, gets them."""
     block = "signal.pthread_sigmask(signal.SIG_%s, [signal.SIGTERM])"
     caller = "import os, signal, sys; %s; os.kill(os.getpid(), signal.SIGTERM); os.execv(sys.argv[1], sys.argv[1:])"
     program = "import os, signal; os.write(1, b'it runs'); %s; signal.pause()" % (block % "UNBLOCK")
@@ -390,6 +407,26 @@ def pending():
     same("what the program says", Beside(p.stdout.read).result(), b"it runs")
     same("the program's end", status_within(p), 128 + signal.SIGTERM)
     p.stdout.close()
+    stops = {signal.SIGTSTP, signal.SIGTTIN, signal.SIGTTOU}  # one of these ends a SIGCONT that waits
+    others = {
+        signal.SIGHUP,
+        signal.SIGINT,
+        signal.SIGQUIT,
+        signal.SIGUSR1,
+        signal.SIGUSR2,
+        signal.SIGALRM,
+        signal.SIGTERM,
+    }
+    others |= {signal.SIGURG, signal.SIGVTALRM, signal.SIGPROF, signal.SIGWINCH, signal.SIGIO, signal.SIGPWR}
+    caller = "import os, signal, sys; all = {%s}; signal.pthread_sigmask(signal.SIG_BLOCK, all)\n"
+    caller += "for each in all: os.kill(os.getpid(), each)\nos.execv(sys.argv[1], sys.argv[1:])"
+    program = "import signal; all = {%s}\nwhile all: all.remove(int(signal.sigwait(all)))"
+    one = sorted(os.sched_getaffinity(0))[:1]  # there makhloeum often goes on before the program's process does
+    for which in (others | stops, others | {signal.SIGCONT}) * 3:
+        numbers = ", ".join(str(int(each)) for each in which)
+        words = [sys.executable, "-c", caller % numbers, PROGRAM, "run", sys.executable, "-c", program % numbers]
+        p = subprocess.Popen(words, start_new_session=True, preexec_fn=lambda: os.sched_setaffinity(0, one))
+        same("%d signals, each of which the program waits for: its status" % len(which), status_within(p), 0)
 
 
 def of_children():
@@ -410,7 +447,7 @@ say(repr(signal.SIGCHLD in signal.sigpending()))
 
 
 def kinds():
-    """One by kill and one by sigqueue are two signals, although the sender is the same."""
+    """One by kill and one by sigqueue are two signals, although the sender is the same. So are those of two senders."""
     run = Run(ALL)
     same("it runs", run.line(), "ready\n")
     program = run.program()
@@ -418,7 +455,12 @@ def kinds():
     for call in (*calls, *calls[::-1]):
         call()
         same("each comes", run.line(), "15\n")
-    run.ends("kill and sigqueue", [(signal.SIGTERM, 4)])
+    for each, first, then in ((signal.SIGHUP, run.p.pid, program), (signal.SIGINT, program, run.p.pid)):
+        os.kill(first, each)
+        same("of one sender", run.line(), "%d\n" % each)
+        subprocess.run(["sh", "-c", "kill -%d %d" % (each, then)])
+        same("of another", run.line(), "%d\n" % each)
+    run.ends("kill, sigqueue and two senders", [(signal.SIGHUP, 2), (signal.SIGINT, 2), (signal.SIGTERM, 4)])
 
 
 def replaced():
@@ -465,7 +507,22 @@ def far_apart():
         run.ends("far apart", [(signal.SIGTERM, 2)])
 
 
-tests = [group, manager, every, alone, asynchronous, outside, often, merged, mounts, faults, deaf, timers, pending]
+tests = [
+    group,
+    manager,
+    every,
+    alone,
+    asynchronous,
+    outside,
+    another,
+    often,
+    merged,
+    mounts,
+    faults,
+    deaf,
+    timers,
+    pending,
+]
 tests += [of_children, kinds, replaced]
 lasting = far_apart() if "far_apart" in sys.argv[1:] or not sys.argv[1:] else iter(())
 next(lasting, None)

@@ -106,7 +106,7 @@ class Terminal:
         return any(int(of) == group and state[0] == "T" for of, state in map(str.split, states.splitlines()))
 
 
-HANDLES = """import os, signal, sys, termios
+HANDLES = """import os, select, signal, sys
 def stops(*_):
     pid = os.fork()  # as an editor that starts stty
     if pid == 0:
@@ -121,9 +121,13 @@ continued = []
 signal.signal(signal.SIGTSTP, stops)
 signal.signal(signal.SIGCONT, lambda *_: continued.append(1))
 print("ready", flush=True)
-for line in sys.stdin:
+while True:
+    while not select.select([0], [], [], 0.05)[0]:
+        pass  # python would call the handler of a signal that comes just before a read after the read
+    line = os.read(0, 100).decode()
+    if not line:
+        sys.exit(9)
     print("got", line.strip(), "continued", len(continued), flush=True)
-sys.exit(9)
 """
 
 
@@ -158,6 +162,7 @@ def second():
     open(os.path.join(t.home, "program.py"), "w").write(HANDLES % "os.getpid()")
     t.tell(RUN + "sh -c '%s program.py; exit 8'" % sys.executable, "ready\r\n", "it runs")
     for times in (1, 2):
+        time.sleep(0.4)  # longer than a handler may take: each stop has a time of its own
         t.type("\x1a")
         t.waits_for("it restores the terminal\r\n", "its handler runs first")
         t.stopped("Stopped ", "a second process, time %d" % times)
@@ -195,13 +200,16 @@ def deaf():
     ignores = "(trap '' TSTP; exec sleep 600)"
     t.type(RUN + 'sh -c "%s & echo ready; exec sleep 600"\n' % ignores)
     t.waits_for("\nready\r\n", "it runs")
-    group = t.foreground()
-    for times in ("first", "second"):
+    group, took = t.foreground(), []
+    while len(took) < 2 or (min(took) >= 2.5 and len(took) < 12):  # a busy machine takes long
+        began = time.monotonic()
         t.type("\x1a")
-        t.stopped("Stopped ", "^Z, the %s time" % times)
+        t.stopped("Stopped ", "^Z, time %d" % (len(took) + 1))
+        took.append(time.monotonic() - began)
         t.type("fg\n")
         # the shell continues it after it gave it the terminal, and a stop that comes between them is lost
         step("it has the terminal", until(lambda: t.foreground() == group and not t.has_stopped(group)))
+    step("at least once the shell had it soon, however busy the machine is", min(took) < 2.5, took)
     t.type("\x03")
     t.waits_for(re.escape(PROMPT), "^C ends it")
     t.ends(130)
@@ -251,6 +259,41 @@ def bash():
 
 def dash():
     shell("dash", "dash -i", "kill -STOP $$", "inner> ")
+
+
+def in_background():
+    """A shell under run that the outer one continues in the background takes no terminal: it stops once it reads."""
+    t = Terminal("an inner shell in the background")
+    t.type("PS1='inner> ' " + RUN + "dash -i\n")
+    t.waits_for("\ninner> ", "the inner shell has the terminal")
+    t.type("kill -STOP $$\n")
+    t.stopped("Stopped ", "it suspends itself")
+    t.asks("bg", "dash -i &\r\n", "bg continues it")
+    t.type(UNTIL_STOPPED)
+    t.waits_for("done\r\n", "the outer shell waits")
+    t.waits_for(re.escape(PROMPT), "the inner one is stopped since it reads")
+    t.type("kill -9 %1; while kill -0 %1 2>/dev/null; do sleep 0.1; done\n")
+    t.waits_for("done\r\n", "the outer shell kills it")
+    t.waits_for(re.escape(PROMPT), "and goes on")
+    t.ends()
+
+
+def by_its_own():
+    """A process of the run continues makhloeum, which has stopped with its program: the program goes on."""
+    t = Terminal("a process of the run continues it")
+    open(os.path.join(t.home, "program.sh"), "w").write(
+        """
+(until read -r pid name state rest </proc/$PPID/stat && [ "$state" = T ]; do :; done; kill -CONT $PPID) &
+kill -STOP $$
+wait
+echo it goes on
+"""
+    )
+    t.tell(RUN + "sh program.sh", "it goes on\r\n", "it stops and is continued")
+    t.asks("echo sum=$((20 + 3))", "sum=23\r\n", "the shell goes on too")
+    t.type("exit\n")
+    step("the shell ends", until(lambda: os.waitpid(t.pid, os.WNOHANG)[0] == t.pid))
+    t.close()
 
 
 def vim():
@@ -350,11 +393,11 @@ def lives(group):
     return True
 
 
-SIZES = """import os, signal
+SIZES = """import os, signal, time
 signal.signal(signal.SIGWINCH, lambda *_: os.write(1, b"size %d %d\\n" % os.get_terminal_size()))
 os.write(1, b"ready\\n")
 while True:
-    signal.pause()
+    time.sleep(0.05)
 """
 
 
@@ -397,18 +440,22 @@ def waits():
 
 
 def hung_up():
-    """The terminal goes: the program of a session's leader gets SIGHUP, and nothing is left."""
-    code = """import os, signal
+    """The terminal goes: the program of a session's leader gets SIGHUP, and nothing is left. One that is stopped gets SIGCONT too."""
+    code = """import os, signal, time
 signal.signal(signal.SIGHUP, lambda *_: (open("heard", "a").write("x"), os._exit(0)))
 print("ready", flush=True)
-signal.pause()
+while True:
+    %s
 """
-    t = Terminal("a terminal that goes", PROGRAM, "run", sys.executable, "-c", code)
-    t.waits_for("ready\r\n", "it runs")
-    os.close(t.fd)
-    step("the run ends", until(lambda: os.waitpid(t.pid, os.WNOHANG)[0] == t.pid))
-    same("its program heard it", open(os.path.join(t.home, "heard")).read(), "x")
-    shutil.rmtree(t.home)
+    for waits in ("time.sleep(0.05)", "os.kill(os.getpid(), signal.SIGSTOP)"):
+        t = Terminal("a terminal that goes", PROGRAM, "run", sys.executable, "-c", code % waits)
+        t.waits_for("ready\r\n", "it runs")
+        if "STOP" in waits:
+            same("it is stopped", os.WIFSTOPPED(os.waitpid(t.pid, os.WUNTRACED)[1]), True)
+        os.close(t.fd)
+        step("the run ends", until(lambda: os.waitpid(t.pid, os.WNOHANG)[0] == t.pid))
+        same("its program heard it", open(os.path.join(t.home, "heard")).read(), "x")
+        shutil.rmtree(t.home)
     # the shell of the terminal passes it on
     t = Terminal("a terminal of a shell that goes")
     t.tell(RUN + "sh -c 'echo ready; sleep 600; :'", "ready\r\n", "it runs")
@@ -451,8 +498,20 @@ def without():
         same("another process continues the first", p.communicate(timeout=PATIENCE)[0], b"it goes on\n")
 
 
-needs = {vim: ("vim.tiny", "vim"), less: ("less",), dash: ("dash",)}
-tests = [handler_of_itself, handler_of_group, second, default, deaf, stops_itself, bash, dash, vim, less, python]
+needs = {vim: ("vim.tiny", "vim"), less: ("less",), dash: ("dash",), in_background: ("dash",)}
+tests = [
+    handler_of_itself,
+    handler_of_group,
+    second,
+    default,
+    deaf,
+    stops_itself,
+    bash,
+    dash,
+    in_background,
+    by_its_own,
+]
+tests += [vim, less, python]
 tests += [background, pipeline, window, waits, hung_up, without]
 asked = [t for t in tests if t.__name__ in sys.argv[1:] or not sys.argv[1:]]
 for test in [t for t in asked if t in needs and not any(map(shutil.which, needs[t]))]:

@@ -1,5 +1,6 @@
 """`makhloeum run --users`: several users in a run. Started by a superuser: of the machine, or of a namespace that
 `unshare --map-root-user --map-auto` makes. This file is also the program."""
+import contextlib
 import ctypes
 import errno
 import glob
@@ -9,7 +10,7 @@ import subprocess
 import sys
 
 sys.path.insert(0, os.path.dirname(os.path.dirname(os.path.realpath(__file__))))
-from support import PATIENCE, PROGRAM, error_of, finish, libc, own_of, read, same, server_and_helper, step, until
+from support import PATIENCE, PROGRAM, error_of, finish, libc, own_of, read, same, server_and_helper, step, until, write
 
 ME = os.path.realpath(__file__)
 OTHER, GROUP = 1, 2
@@ -53,6 +54,14 @@ def inside(outside):
         said(*as_other, "sh", "-c", "cd /sys/fs/cgroup && mkdir o && stat -c %u:%g o o/pids.max"),
         (0, "%d:%d\n" % (OTHER, GROUP) * 2, ""),
     )
+    file, pid = os.open(AT + "/cgroup.stat", os.O_WRONLY), os.fork()
+    if pid == 0:
+        os.setgid(GROUP)
+        os.setuid(OTHER)
+        got = error_of(os.ftruncate, file, 0), error_of(os.truncate, AT + "/cgroup.stat", 0)
+        os._exit(0 if got == ("ok", "EACCES") else 1)
+    same("another user truncates by an open file, and not by its path", os.waitpid(pid, 0)[1], 0)
+    os.close(file)
     place = os.path.join(os.environ["TMPDIR"], "at%d" % os.getpid())
     os.mkdir(place)
     script = "mount -t tmpfs x %s && stat -c %%u:%%g %s" % (place, place)
@@ -79,19 +88,46 @@ def alone():
     finish()
 
 
-def kept():
-    """What the processes of a run have open: the helper no descriptor of the caller or of the supervisor that it does not use, and no
-    two of them the same socket, but for the one by which the supervisor's helper passes tables."""
+def mapped(count):
+    """The status of a run with all users of a namespace that has the superuser and as many others."""
+    text = b"".join(b"%d %d 1\n" % (number, n) for n, number in enumerate((0, *range(4000000000, 4000000000 + count))))
+    told, go = os.pipe(), os.pipe()
+    pid = os.fork()
+    if pid == 0:
+        libc.unshare(0x10000000)  # CLONE_NEWUSER
+        os.write(told[1], b"x")
+        os.read(go[0], 1)
+        os.dup2(os.open(os.devnull, os.O_WRONLY), 2)
+        os.execv(PROGRAM, [PROGRAM, "run", "--users", "true"])
+    os.read(told[0], 1)
+    for which in ("uid_map", "gid_map"):
+        write("/proc/%d/%s" % (pid, which), text)
+    os.write(go[1], b"x")
+    for fd in (*told, *go):
+        os.close(fd)
+    return os.waitstatus_to_exitcode(os.waitpid(pid, 0)[1])
+
+
+def kept(*options):
+    """What the processes of a run have open: none that only its beginning used, the helper and the companion no descriptor of the caller,
+    and no two of them the same socket, but for the one by which the supervisor's helper passes tables."""
     passed = sum((os.pipe() for _ in range(9)), ())
-    words = [PROGRAM, "run", "sh", "-c", "echo; exec cat"]
+    trace, answers = (os.path.join(os.environ["TMPDIR"], "%s%d" % (name, os.getpid())) for name in ("trace", "answers"))
+    words = [PROGRAM, "run", "--keep", "io", "--trace", trace, "--answers", answers, *options]
+    words += ["sh", "-c", "echo; exec cat"]
     p = subprocess.Popen(words, stdin=subprocess.PIPE, stdout=subprocess.PIPE, pass_fds=passed)
     same("it runs", p.stdout.readline(), b"\n")
     server, helper = server_and_helper(p.pid)
     (companion,) = set(own_of(p.pid)) - {server, helper}
+    of_caller = {os.readlink("/proc/self/fd/%d" % fd) for fd in passed}
 
     def links(pid):
         numbers = (int(os.path.basename(name)) for name in glob.glob("/proc/%d/fd/*" % pid))
-        return [os.readlink("/proc/%d/fd/%d" % (pid, fd)) for fd in sorted(numbers) if fd > 2]
+        found = []
+        for fd in sorted(fd for fd in numbers if fd > 2):
+            with contextlib.suppress(FileNotFoundError):  # it was closed meanwhile
+                found.append(os.readlink("/proc/%d/fd/%d" % (pid, fd)))
+        return found
 
     def shared():
         sockets = [
@@ -99,17 +135,26 @@ def kept():
         ]
         return [len(sockets[a] & sockets[b]) for a in range(4) for b in range(a)]
 
-    kinds = lambda: sorted(link.partition(":")[0] for link in links(helper))
-    wanted = [
-        "/",
-        AT,
-        AT + "/.makhloeum.d",
-        "anon_inode",
-        "socket",
-        "socket",
-    ]  # its root, those of the mount, and a listener
-    step("what the helper has", until(lambda: kinds() == wanted), kinds())
+    def kinds(pid):
+        return sorted("socket" if link.startswith("socket:") else link for link in links(pid))
+
+    freezer, signals, listener = ("anon_inode:" + name for name in ("[eventfd]", "[signalfd]", "seccomp notify"))
+    for name, pid, wanted in (
+        # sockets to the first process, to the server, to the helper, and that of the tables
+        ("supervisor", p.pid, [AT, freezer, signals, listener, *["socket"] * 4]),
+        # sockets to the supervisor and to the companion, and that of the tables; and the set in which it waits for questions
+        ("server", server, [trace, answers, "/dev/fuse", freezer, "anon_inode:[eventpoll]", *["socket"] * 3]),
+        # its root, those of the mount, and a listener
+        ("helper", helper, ["/", AT, AT + "/.makhloeum.d", listener, "socket", "socket"]),
+        # a copy of the mount, which begins at its root
+        ("companion", companion, ["/", "socket"]),
+    ):
+        others = of_caller if name in ("supervisor", "server") else ()
+        has = lambda pid=pid, others=others: [link for link in kinds(pid) if link not in others]
+        step("what the %s has" % name, until(lambda has=has, wanted=wanted: has() == sorted(wanted)), has())
     same("sockets that two of the four have", shared(), [0, 1, 0, 0, 0, 0])
+    in_proc = lambda: [os.path.exists("/proc/%d/cwd/filesystems" % pid) for pid in (p.pid, server, helper, companion)]
+    step("each works in /proc, and keeps no folder of the caller in use", until(lambda: all(in_proc())), in_proc())
     p.communicate()
     for fd in passed:
         os.close(fd)
@@ -139,7 +184,10 @@ ran = subprocess.run([PROGRAM, "run", "--users", sys.executable, ME, "inside", m
 same("a run with all users: its status", ran.returncode, 0)
 ran = subprocess.run([PROGRAM, "run", sys.executable, ME, "alone"], timeout=6 * PATIENCE)
 same("a run of the superuser: its status", ran.returncode, 0)
-kept()
+same("a map of 101 lines", mapped(100), 0)
+same("one that is longer than a page where each number is itself", mapped(200), 2)
+for options in ((), ("--root",), ("--users",)):
+    kept(*options)
 # another group than that of the user's number
 script = """id -u; id -g; cat /proc/self/uid_map /proc/self/gid_map /proc/self/setgroups; cd /sys/fs/cgroup; mkdir g
 stat -c %u:%g . .makhloeum .makhloeum/fork g g/pids.max; echo 0 >g/cgroup.procs; cat /proc/self/cgroup"""

@@ -81,6 +81,14 @@ for fd in map(int, sys.argv[1:]):
 """
 
 
+# Whether the mounts of these directories are of the program's own namespace.
+OF_NAMESPACE = """import sys
+own = {line.split()[0] for line in open("/proc/self/mountinfo")}
+lines = [line.split() for fd in sys.argv[1:] for line in open("/proc/self/fdinfo/" + fd)]
+print([number in own for name, number in lines if name == "mnt_id:"])
+"""
+
+
 def climbs():
     """A directory that is inherited leads to the hierarchy, up and down, and to no other groups."""
     home, gone = tempfile.mkdtemp(), tempfile.mkdtemp()
@@ -98,6 +106,8 @@ def climbs():
         words = [PROGRAM, "run", *options, sys.executable, "-c", CLIMBS, str(opened[0])]
         status, text, said = ran(*words, pass_fds=opened[:1])
         same("run %s" % " ".join(options), (status, text.split()[-1:], said), (0, ["{True}"], ""))
+        words = [PROGRAM, "run", *options, sys.executable, "-c", OF_NAMESPACE, *map(str, opened[:2])]
+        same("whose mounts they are of", ran(*words, pass_fds=opened[:2]), (0, "[True, True]\n", ""))
     script = 'exec "$0" run sh -c \'exec 9<&0 </dev/null; exec "$0" -c "$1" 9\' "$1" "$2"'
     status, text, said = ran("sh", "-c", script, PROGRAM, sys.executable, CLIMBS, stdin=opened[0])
     same("as standard input", (status, text, said), (0, wanted[0] + "\n", ""))

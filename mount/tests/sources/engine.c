@@ -1,10 +1,13 @@
-/* The engine alone: what it answers without a line, an operation of several lines in a long trace, the warning about such a trace, and
-   what is left of it after its end. */
+/* The engine alone: what it answers without a line, an operation of several lines in a long trace, the warning about such a trace,
+   files that take no more, and what is left of it after its end. */
 #include "engine/engine.h"
 #include "common/bounds.h"
+#include <dlfcn.h>
 #include <errno.h>
 #include <fcntl.h>
 #include <malloc.h>
+#include <pthread.h>
+#include <signal.h>
 #include <stdio.h>
 #include <stdlib.h>
 #include <string.h>
@@ -63,8 +66,10 @@ static void queries(void)
 	is("its numbers", engine_current("/none", &number) == -ENOENT && engine_limit("x", &number) == -ENOENT);
 	is("nothing of it is kept", trace.size == kept);
 	bool are_made = true;
+	const size_t before = engine_depth();
 	for (int i = 2; i <= PROCESSES; i++)
 		are_made &= engine_line("fork 1 %d", i) == 0;
+	is("each can be undone", engine_depth() == before + PROCESSES - 1);
 	is("many processes", are_made && engine_look("cat / cgroup.procs") == 0);
 	is("all are in the text", strtol(engine_text(&size) + size - 5, NULL, 10) == PROCESSES && size > 4 * PROCESSES);
 	is("a group", engine_line("mkdir /q") == 0);
@@ -132,7 +137,17 @@ static void *read_late(void *unused)
 	return unused;
 }
 
-/* A trace is too long for cgreplay with one byte more than that reads. */
+static bool has_no_thread;
+
+/* In place of the C library's. */
+int pthread_create(pthread_t *out, const pthread_attr_t *how, void *(*call)(void *), void *with)
+{
+	static int (*next)(pthread_t *, const pthread_attr_t *, void *(*)(void *), void *);
+	*(void **)&next = dlsym(RTLD_NEXT, "pthread_create");
+	return has_no_thread ? EAGAIN : next(out, how, call, with);
+}
+
+/* A trace is too long for cgreplay with one byte more than that reads. Where there is no thread that says it, a later line tries again. */
 static void warning(void)
 {
 	is("a line", engine_line("mkdir /w") == 0);
@@ -141,8 +156,118 @@ static void warning(void)
 	is("a trace that is as long as it may be", engine_line("mkdir /x") == 0 && trace.size == TRACE_BYTES);
 	is("of it nothing is said", !trace.was_told);
 	trace.size = TRACE_BYTES - line + 1;
-	is("one more byte", engine_line("mkdir /y") == 0 && trace.was_told);
+	has_no_thread = true;
+	is("one more byte, and no thread", engine_line("mkdir /v") == 0 && !trace.was_told);
+	has_no_thread = false;
+	is("one more line", engine_line("mkdir /y") == 0 && trace.was_told);
 	is("more lines", engine_line("mkdir /z") == 0 && is_whole(&trace));
+}
+
+/* ---------------------------------------------------------------- files that take no more */
+
+static const char wide[1 << 14];
+static volatile sig_atomic_t interrupted;
+static pthread_t writer;
+static int room[2]; /* a pipe */
+
+static void on_signal(int unused)
+{
+	(void)unused;
+	interrupted++;
+}
+
+/* What was opened as this file is another one from now on. */
+static void replace(const struct trace_file *file, int by)
+{
+	if (by < 0 || dup2(by, file->fd) != file->fd)
+		exit(2);
+}
+
+/* How many bytes were in the pipe. */
+static size_t empty(void)
+{
+	char bytes[4096];
+	size_t size = 0;
+	for (ssize_t n; (n = read(room[0], bytes, sizeof bytes)) > 0;)
+		size += (size_t)n;
+	return size;
+}
+
+static void fill(void)
+{
+	while (write(room[1], wide, 1) == 1)
+		;
+}
+
+static void set_patient(bool waits)
+{
+	if (fcntl(room[1], F_SETFL, waits ? 0 : O_NONBLOCK))
+		exit(2);
+}
+
+/* The first thread waits in a write, which a signal interrupts, and waits again. */
+static void *interrupt(void *unused)
+{
+	while (!sleeps(first))
+		usleep(1000);
+	pthread_kill(writer, SIGUSR1);
+	while (!interrupted || !sleeps(first))
+		usleep(1000);
+	empty();
+	return unused;
+}
+
+/* A device of which the test decides what it takes: it is opened as one, and replaced by a pipe. */
+static void devices(void)
+{
+	struct trace_file file;
+	struct sigaction handler = { .sa_handler = on_signal };
+	pthread_t other;
+	writer = pthread_self();
+	is("a device", trace_file_open(&file, "/dev/null") && trace_file_begin(&file));
+	if (pipe2(room, O_NONBLOCK) || fcntl(room[1], F_SETPIPE_SZ, (int)sizeof wide / 2) < 0)
+		exit(2);
+	replace(&file, room[1]);
+	fill();
+	is("one that takes nothing", trace_file_add(&file, "x\n", 2) == -EAGAIN && file.size == 0);
+	empty();
+	is("takes a text once it has room", trace_file_add(&file, "x\n", 2) == 0 && file.size == 2 && empty() == 2);
+	trace_file_take_back(&file, 0);
+	is("of which the size alone is taken back", file.size == 0);
+	fill();
+	set_patient(true);
+	if (sigaction(SIGUSR1, &handler, NULL) || pthread_create(&other, NULL, interrupt, NULL))
+		exit(2);
+	is("a signal that interrupts a text", trace_file_add(&file, "x\n", 2) == 0 && interrupted == 1);
+	pthread_join(other, NULL);
+	set_patient(false);
+	empty();
+	is("one that takes a part", trace_file_add(&file, wide, sizeof wide) == -EAGAIN && empty() == sizeof wide / 2);
+	is("gets no more", trace_file_add(&file, "x\n", 2) == -EAGAIN && empty() == 0);
+	trace_file_close(&file);
+	close(room[0]);
+	close(room[1]);
+}
+
+/* What a full device has left of a text, and could not be cut off at once, goes at the end. */
+static void rest(void)
+{
+	struct trace_file file;
+	struct stat st;
+	char name[256];
+	snprintf(name, sizeof name, "%.240s.rest", names[0]);
+	is("a file", trace_file_open(&file, name) && trace_file_add(&file, "line\n", 5) == 0);
+	int own = dup(file.fd), other = open(name, O_RDONLY);
+	replace(&file, other);
+	is("a text that it does not take", trace_file_add(&file, "half\n", 5) == -EBADF && file.size == 5);
+	if (pwrite(own, "half", 4, 5) != 4)
+		exit(2);
+	replace(&file, own);
+	close(own);
+	close(other);
+	trace_file_close(&file);
+	is("nothing is left of it", stat(name, &st) == 0 && st.st_size == 5);
+	unlink(name);
 }
 
 /* The end waits until the sentence is said. */
@@ -193,6 +318,8 @@ int main(int argc, char **argv)
 	operations();
 	queries();
 	engine_unlock();
+	devices();
+	rest();
 	end();
 	is("it keeps no descriptor", descriptors() == open);
 	is("nor any memory", allocated() < bytes + SPARE);

@@ -169,11 +169,15 @@ static const unsigned late_number = 0x9abcdef1; /* after billions of others */
 static int server; /* the test is the server: it replies before it is asked */
 static struct question q;
 
-static void replies(unsigned reservation)
+static void replies_with(struct reply r)
 {
-	struct reply r = { .reservation = reservation };
 	if (send(server, &r, sizeof r, 0) != sizeof r)
 		exit(2);
+}
+
+static void replies(unsigned reservation)
+{
+	replies_with((struct reply){ .reservation = reservation });
 }
 
 static bool hears_question(enum what what)
@@ -181,14 +185,42 @@ static bool hears_question(enum what what)
 	return recv(server, &q, sizeof q, MSG_DONTWAIT) > 0 && q.what == what;
 }
 
+/* Several wake the server together. While the server kills, whoever tells of a process's end waits for it. */
+static void events(void)
+{
+	int told = 0;
+	is("nobody waits", link_wake_late() == -1);
+	link_thread_born(late_number, 8);
+	link_thread_ended(8);
+	link_exited(9);
+	is("a thread and two ends", hears(late_number, 8) && hears(0, 8) && hears(0, 9));
+	is("the server sleeps", !hears_question(EVENTS));
+	while (link_wake_late() >= 0)
+		usleep(1000);
+	is("soon it is woken", hears_question(EVENTS));
+	while (told < 100 && !hears_question(EVENTS))
+		link_thread_ended(++told);
+	is("more wake it", told > 1 && told < 100 && link_wake_late() == -1);
+	supervisor_events_set_kills(true);
+	replies(0);
+	link_exited(9);
+	is("an end while it kills", hears_question(CATCH_UP));
+	supervisor_events_set_kills(false);
+	for (int i = 0; i < told; i++)
+		is("all in order", hears(0, i + 1));
+	is("and the last", hears(0, 9));
+}
+
 /* Numbers that count on come whole. */
 static void questions(void)
 {
 	int ends[2];
 	unsigned number = 0;
-	bool frozen;
+	pid_t who = 0;
+	bool frozen, stops;
 	if (!link_make(ends))
 		exit(2);
+	alarm(60); /* what is wrong may have no end */
 	server = ends[1];
 	link_use(ends[0], getpid());
 	replies(late_number);
@@ -207,8 +239,30 @@ static void questions(void)
 	replies(0);
 	link_namespace(late_number - 1, late_number);
 	is("it is made", hears_question(NAMESPACE) && q.made.space == late_number - 1 && q.made.call == late_number);
+	replies_with((struct reply){ .fault = -ENOENT, .reservation = late_number });
+	is("one that is refused", link_reserve(5, NULL, false, &number) == -ENOENT && number == 0);
+	is("it names no group", hears_question(RESERVE) && !q.names_group && !q.reserve.is_thread);
+	replies_with((struct reply){ .fault = -ESRCH, .is_frozen = true });
+	is("a frozen child, and its fault", link_born(1, 7, &frozen) == -ESRCH && frozen && hears_question(BORN));
+	replies_with((struct reply){ .fault = -ENOMEM });
+	is("a namespace that is not prepared", link_prepare(1, 5, "/b") == -ENOMEM);
+	is("it would begin there", hears_question(PREPARE) && q.prepare.process == 5 && strcmp(q.group, "/b") == 0);
+	replies(0);
+	link_stopped(7, true);
+	is("a process rests", hears_question(STOPPED) && q.stopped.process == 7 && q.stopped.stopped);
+	replies_with((struct reply){ .order = { 7, true } });
+	is("an order", link_order(&who, &stops) && who == 7 && stops && hears_question(ORDER));
+	replies_with((struct reply){ .order = { 0, true } });
+	is("none", !link_order(&who, &stops) && hears_question(ORDER));
+	events();
+	close(server);
+	is("without a server no child may be made",
+		link_reserve(5, NULL, false, &number) == -EAGAIN && number == 0 && link_born(1, 7, &frozen) == -EAGAIN);
+	is("and there is no order", link_prepare(1, 5, NULL) == -EAGAIN && !link_order(&who, &stops));
+	for (int i = 0; i < 1000; i++)
+		link_thread_ended(i + 1);
+	alarm(0);
 	close(ends[0]);
-	close(ends[1]);
 }
 
 /* ---------------------------------------------------------------- in advance */

@@ -11,7 +11,9 @@
 #include "server/attributes.h"
 #include "server/cgroup_namespaces.h"
 #include "server/control.h"
+#include "server/freezer.h"
 #include "server/group_state.h"
+#include "server/mount_tables.h"
 #include "server/open_files.h"
 #include "server/operations.h"
 #include "server/owner.h"
@@ -19,10 +21,13 @@
 #include "values/values.h"
 #include <signal.h>
 #include <stdio.h>
+#include <stdlib.h>
+#include <string.h>
 #include <sys/wait.h>
 #include <unistd.h>
 
-enum { PATIENCE = 60 }; /* seconds: a call that waits is ended */
+/* PATIENCE: seconds, after which a call that waits is ended. SAID: bytes of what it says. */
+enum { PATIENCE = 60, SAID = 256 };
 
 static struct stat st;
 static struct group_state remembered = { .path = "/" };
@@ -102,11 +107,13 @@ static void tidy(void)
 }
 static void node_find(void)
 {
-	nodes_find(1, &node);
+	nodes_find(~(uint64_t)0, &found);
 }
+/* In a group that was removed nothing is looked for. */
 static void node_below(void)
 {
-	nodes_find_below(&node, "x", &found);
+	static struct group_state removed = { .path = "/x", .gone = true };
+	nodes_find_below(&(struct node){ .group = &removed }, "x", &found);
 }
 static void node_above(void)
 {
@@ -188,16 +195,34 @@ static void forget_watch(void)
 {
 	watch_forget(&remembered);
 }
-/* Also once the mount has ended: whoever forgets a file then, or finds a change, waits for nobody. */
-static void stop_watches(void)
+static void forget_seen(void)
 {
 	watch_seen("/x", file_named("cgroup.events", false));
-	watch_stop();
 	watch_forget(group_state_find("/x"));
 }
 static void new_open(void)
 {
 	open_files_new(&remembered, NULL, A_DIRECTORY);
+}
+static void free_open(void)
+{
+	open_files_free(calloc(1, sizeof opened));
+}
+static void keep_text(void)
+{
+	open_files_keep(&opened, "x", 1);
+}
+static void goes_on(void)
+{
+	open_files_goes_on(&opened, 1);
+}
+static void poll_open(void)
+{
+	open_files_poll(&opened, NULL);
+}
+static void lose_files(void)
+{
+	open_files_lose_files(&remembered, 0);
 }
 static void has(void)
 {
@@ -303,21 +328,144 @@ static void forget_values(void)
 	values_forget(&remembered, 0);
 }
 
-static int ends_by(void (*call)(void), bool locked)
+static void current(void)
 {
-	int status = 0;
+	uint64_t count;
+	engine_current("/", &count);
+}
+static void limit(void)
+{
+	uint64_t most;
+	engine_limit("/x", &most);
+}
+static int keep(void *to, const char *bytes, size_t count)
+{
+	return !to && bytes && count ? 1 : 0;
+}
+static void read_control(void)
+{
+	control_read(0, keep, NULL);
+}
+static void find_table(void)
+{
+	mount_tables_find(1);
+}
+static void close_table(void)
+{
+	mount_tables_close(1);
+}
+static void ring_table(void)
+{
+	mount_tables_ring(1);
+}
+static void order(void)
+{
+	pid_t process;
+	bool stop;
+	freezer_order(&process, &stop);
+}
+static void frozen_moved(void)
+{
+	freezer_moved(2, "/");
+}
+static void frozen_born(void)
+{
+	freezer_born(2, "/");
+}
+static void frozen_gone(void)
+{
+	freezer_gone(2);
+}
+static void frozen_told(void)
+{
+	freezer_told(2, false);
+}
+static void made(void)
+{
+	cgroup_namespaces_made(1, 1);
+}
+static void root_of(void)
+{
+	cgroup_namespaces_root(1);
+}
+
+/* The signal that ends a call, and what is said. A lock that was given back is no lock. */
+static int ends_by(void (*call)(void), bool locked, char said[SAID])
+{
+	int status = 0, ends[2];
+	size_t size = 0;
+	if (pipe(ends))
+		_exit(1);
 	pid_t pid = fork();
 	if (pid == 0) {
 		alarm(PATIENCE);
-		if (!freopen("/dev/null", "w", stderr))
+		if (dup2(ends[1], STDERR_FILENO) < 0)
 			_exit(1);
-		if (locked)
-			engine_lock();
+		engine_lock();
+		if (!locked)
+			engine_unlock();
 		call();
 		_exit(0);
 	}
+	close(ends[1]);
+	ssize_t n;
+	while ((n = read(ends[0], said + size, SAID - 1 - size)) > 0)
+		size += (size_t)n;
+	said[size] = 0;
+	close(ends[0]);
 	waitpid(pid, &status, 0);
 	return WIFSIGNALED(status) ? WTERMSIG(status) : 0;
+}
+
+/* Functions that call others which require the lock too: each says by its own name that it is missing. */
+static const struct {
+	const char *name;
+	void (*call)(void);
+} named[] = {
+	{ "engine_line", line },
+	{ "engine_look", look_at },
+	{ "engine_has_group", has_group },
+	{ "engine_children", children },
+	{ "engine_groups", groups },
+	{ "engine_history", history },
+	{ "engine_current", current },
+	{ "engine_limit", limit },
+	{ "engine_begin", begin_several },
+	{ "engine_finish", finish_several },
+	{ "engine_forget", forget },
+	{ "cgroup_namespaces_prepare", prepare },
+	{ "cgroup_namespaces_made", made },
+	{ "cgroup_namespaces_root", root_of },
+	{ "control_read", read_control },
+	{ "control_write", control },
+	{ "freezer_born", frozen_born },
+	{ "freezer_gone", frozen_gone },
+	{ "freezer_moved", frozen_moved },
+	{ "freezer_order", order },
+	{ "freezer_told", frozen_told },
+	{ "freezer_undone", freezer_undone },
+	{ "get", find_table },
+	{ "mount_tables_close", close_table },
+	{ "mount_tables_ring", ring_table },
+	{ "watch_above", above },
+	{ "watch_below", below },
+	{ "watch_forget", forget_watch },
+	{ "watch_seen", seen },
+};
+
+static size_t wrong_names(void)
+{
+	char said[SAID], wanted[SAID];
+	size_t wrong = 0;
+	for (size_t i = 0; i < sizeof named / sizeof *named; i++) {
+		snprintf(wanted, sizeof wanted, "makhloeum: %s is called without the engine's lock\n", named[i].name);
+		if (ends_by(named[i].call, false, said) == SIGABRT && strcmp(said, wanted) == 0 &&
+			ends_by(named[i].call, true, said) == 0)
+			continue;
+		printf("  %s FAILED: %s\n", named[i].name, said);
+		wrong++;
+	}
+	return wrong;
 }
 
 int main(void)
@@ -325,20 +473,23 @@ int main(void)
 	void (*const calls[])(void) = { line, look_at, take_text, where, has_group, children, groups, depth, history, find,
 		make, lose, numbered, tidy, node_find, node_below, node_above, node_known, node_forget, begin, apply, set,
 		touch, forget_owner, forget_attributes, seen, above, below, process, listed, visit_each, prepare, zombies_room,
-		forget_watch, stop_watches, new_open, has, read_open, is_gone, wake, lose_open, control, handle, begin_several,
-		finish_several, forget, room_for_operation, add_operation, newest_operation, count_operations, cut_operations,
-		reserve, find_reserved, drop_reserved, count_reserved, count_reserved_below, kill_reserved, in_table,
-		begin_process, add_thread, drop_thread, any_thread, next_thread, forget_values };
+		forget_watch, forget_seen, new_open, free_open, keep_text, goes_on, poll_open, lose_files, has, read_open,
+		is_gone, wake, lose_open, control, handle, begin_several, finish_several, forget, room_for_operation,
+		add_operation, newest_operation, count_operations, cut_operations, reserve, find_reserved, drop_reserved,
+		count_reserved, count_reserved_below, kill_reserved, in_table, begin_process, add_thread, drop_thread,
+		any_thread, next_thread, forget_values };
 	static struct trace_file none = { .fd = -1 };
+	char said[SAID];
 	size_t wrong = 0, count = sizeof calls / sizeof *calls;
 	if (!engine_start(&none, &none, true))
 		return 1;
 	for (size_t i = 0; i < count; i++)
-		if (ends_by(calls[i], false) != SIGABRT || ends_by(calls[i], true) != 0) {
-			printf("  call %zu FAILED\n", i);
+		if (ends_by(calls[i], false, said) != SIGABRT || ends_by(calls[i], true, said) != 0) {
+			printf("  call %zu FAILED: %s\n", i, said);
 			wrong++;
 		}
-	printf("  %zu calls without the lock, %zu of them wrong\n", count, wrong);
+	wrong += wrong_names();
+	printf("  %zu calls without the lock, %zu of them wrong\n", count + sizeof named / sizeof *named, wrong);
 	engine_end();
 	return wrong != 0;
 }
