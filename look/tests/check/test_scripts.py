@@ -1,5 +1,10 @@
 """What `makhloeum check` prints of a difference, line by line, and what the engine's side asks of the directory."""
 
+import os
+import subprocess
+import threading
+import time
+
 import pytest
 
 from makhloeum.check.engine import Answer, Engine, listing
@@ -26,6 +31,8 @@ def body(*lines, way="free", control=False, ours=BUSY, theirs=DONE):
     own = "makhloeum-check-$$"
     on = f"; echo +pids >{own}/cgroup.subtree_control" if control else ""
     assert script[2] == f"cd /dir && mkdir {own}{on} && mkdir {own}/home {own}/top && cd {own}/top || exit 2"
+    gone = f"cd ../..; find {own} -depth -type d -exec rmdir {{}} +"
+    assert script[3] == f"k= d=$(mktemp -d); trap 'kill -9 $k; sleep 0.5; rm -r \"$d\"; {gone}' EXIT", "nothing is left"
     rest = script[4:]
     forks = [line for line in rest if line.startswith(("p()", "f()"))]
     assert [line[:3] for line in forks] in ([], ["p()", "f()"]) and rest[: len(forks)] == forks
@@ -48,6 +55,7 @@ MOVES = ["mkdir a", STARTS.format(2) + "; echo $p2 >a/cgroup.procs"]
         (["mkdir /a", "list /a"], ["mkdir a", "ls a"]),
         (["mkdir /a", "write /a pids.max 1"], ["mkdir a", "/bin/echo 1 >a/pids.max"]),
         (["write / cgroup.max.depth x", "mkdir /a"], ["echo x >cgroup.max.depth", "mkdir a"]),
+        (["write / pids.max $x*", "mkdir /-a", "mkdir /a"], ["echo '$x*' >pids.max", "mkdir ./-a", "mkdir a"]),
         ([*MOVED, "rmdir /a"], [*MOVES, "rmdir a"]),
         ([*MOVED, "where 2"], [*MOVES, "cat /proc/$p2/cgroup"]),
         ([*MOVED, "write / cgroup.procs 2"], [*MOVES, "/bin/echo $p2 >../home/cgroup.procs"]),
@@ -144,6 +152,26 @@ def test_files_that_stay_open_and_watched_ones():
     assert watched.count(" a/cgroup.events & ") == 2 and "POLLPRI" in watched and watched.endswith("& v=$!; sleep 0.5")
     many = body(*(f"reread /a file{number}" for number in range(7)), "list /")
     assert [line[5] for line in many[:7]] == list("4567894"), "a shell has one digit for an open file"
+
+
+def test_a_script_waits_for_a_change_that_comes_late(tmp_path):
+    """A pipe stands for the watched file: it wakes a poll when its writer closes it."""
+    os.mkfifo(tmp_path / "cgroup.events")
+    written = []
+
+    def change():
+        with open(tmp_path / "cgroup.events", "w", encoding="ascii") as file:  # once the script has opened it
+            written.append(time.monotonic())
+            print("populated 0", file=file, flush=True)
+            time.sleep(0.5)
+
+    threading.Thread(target=change, daemon=True).start()
+    script = "\n".join(["inotifywait() { :; }", *body("watch /", "told /")]) + "\n"
+    ran = subprocess.run(["sh"], input=script, text=True, capture_output=True, timeout=600, cwd=tmp_path)
+    assert written, ran.stderr
+    took = time.monotonic() - written[0]
+    # on a busy machine the change may come after the two seconds that the script waits
+    assert ran.stdout == "poll came\n" or ran.stdout == "poll nothing\n" and took > 2, (took, ran.stderr)
 
 
 def test_a_kill_that_differs_shows_who_is_alive():

@@ -166,14 +166,15 @@ def test_a_list_of_a_group_that_is_not_there_is_no_list():
     assert told == ["ok\n800", "refused nogroup /none", "refused nogroup /none/a", "refused path"]
 
 
-def test_a_group_that_the_page_alone_has():
+@pytest.mark.parametrize("line", [b"fork 1 2", b"exit 1"])
+def test_a_group_that_the_page_alone_has(line):
     with Hierarchy() as h:
         history = History(h)
         history.read(b"mkdir /a\nwrite /a cgroup.procs 1\n")
         h.write("/", "cgroup.procs", 1)
         h.rmdir("/a")
         with pytest.raises(RuntimeError, match="^after 2 commands the engine has no group /a, which the page has$"):
-            history.line(b"fork 1 2")
+            history.line(line)
 
 
 # ---- times, notes and lines

@@ -40,6 +40,120 @@ def colours(b, *selectors):
     ]
 
 
+# ---- what looks alike, and what doesn't
+
+# Of each pair of a selector and a property: its value for the first element; `::before` may follow the selector.
+LOOKS = """
+return arguments[0].map(([selector, property]) => {
+  const [element, part] = selector.split("::");
+  return getComputedStyle(document.querySelector(element), part ? "::" + part : null).getPropertyValue(property);
+});
+"""
+
+
+@pytest.mark.parametrize("scheme", ["light", "dark"])
+def test_a_key_has_the_colour_and_the_line_of_what_it_names(media, scheme):
+    b = media([("prefers-color-scheme", scheme)], link="#line=42")
+    kinds = [
+        [
+            ("svg .current", "stroke"),
+            (".key-current::before", "border-top-color"),
+            ("#tree .bar:not(.full) > b", "background-color"),
+        ],
+        [("svg .limit", "stroke"), (".key-limit::before", "border-top-color")],
+        [
+            ("svg .peak", "stroke"),
+            (".key-peak::before", "border-top-color"),
+            ("#tree .bar > i", "background-color"),
+            (".head .peak-key", "background-color"),
+        ],
+        [
+            ("svg .mark-refused", "fill"),
+            (".key-refused::before", "border-top-color"),
+            ("#list .refused .said", "color"),
+        ],
+        [("svg .mark-kill", "stroke"), (".key-kill::before", "border-left-color"), ("#list .kill", "color")],
+    ]
+    found = [set(b.run(LOOKS, kind)) for kind in kinds]
+    assert [len(one) for one in found] == [1] * 5 and len(set.union(*found)) == 5, found
+    lines = [("svg .current", "stroke-dasharray"), (".key-current::before", "border-top-style")]
+    assert b.run(LOOKS, lines) == ["none", "solid"]
+    dashes = b.run(LOOKS, [("svg .limit", "stroke-dasharray"), ("svg .peak", "stroke-dasharray")])
+    assert "none" not in dashes and dashes[0] != dashes[1]
+    assert b.run(LOOKS, [(".key-limit::before", "border-top-style"), (".key-peak::before", "border-top-style")]) == [
+        "dashed",
+        "dotted",
+    ]
+    assert b.run(LOOKS, [(f"svg .{kind}", "fill") for kind in ("current", "limit", "peak")]) == ["none"] * 3
+    # a full bar has the colour of the limit
+    b.run("location.hash = 'line=32'")
+    assert b.until(lambda: b.run("return document.querySelector('#tree .bar.full') !== null"))
+    full, limit = b.run(LOOKS, [("#tree .bar.full > b", "background-color"), ("svg .limit", "stroke")])
+    assert full == limit
+    assert b.run(LOOKS, [("#tree .bar.free", "border-top-style"), ("#tree .bar.full", "border-top-style")]) == [
+        "dashed",
+        "solid",
+    ]
+
+
+@pytest.mark.parametrize("scheme", ["light", "dark"])
+def test_each_kind_of_row_has_a_ground_of_its_own(media, scheme):
+    b = media([("prefers-color-scheme", scheme)])
+    b.type("#query", "fork 4")
+    rows = [
+        "#list .row.now",
+        "#list .row.hit:not(.now)",
+        "#list .row:not(.hit, .now)",
+        "#tree .row.changed",
+        "#tree .row:not(.changed)",
+    ]
+    grounds = colours(b, "body", *rows)
+    assert grounds[3] == grounds[5] == "rgba(0, 0, 0, 0)", "the page's"
+    assert len({*grounds}) == 5, grounds
+    shadows = b.run(
+        LOOKS,
+        [(one, "box-shadow") for one in ("#list .row.now", "#tree .row.chosen", rows[1], "#tree .row:not(.chosen)")],
+    )
+    assert shadows[0] == shadows[1] != "none" and shadows[2:] == ["none", "none"]
+    b.run("location.hash = 'line=33'")
+    assert b.until(lambda: b.run("return document.querySelector('#tree .was') !== null"))
+    plain, was = b.run(
+        LOOKS, [("#tree .number-cell:not(.was)", "text-decoration-line"), ("#tree .was", "text-decoration-line")]
+    )
+    assert (plain, was) == ("none", "underline"), "a number that the command changes"
+    yes, no = b.run(LOOKS, [("#tree .yes", "color"), ("#summary", "color")])
+    assert yes != no
+
+
+def test_what_can_be_clicked_shows_it_and_what_is_long_is_cut_or_scrolls(media):
+    b = media(link="#line=42")
+    b.run("document.getElementById('refusals').disabled = true")
+    hands = [
+        (one, "cursor") for one in ("#before", "#tree .twist", "#tree .pid", "#refusals", "#list .row", "#name-width")
+    ]
+    assert b.run(LOOKS, hands) == ["pointer", "pointer", "pointer", "default", "default", "col-resize"]
+    cut = ("#list .text", "#list .said", "#tree .start", "#tree .row > span:last-child")
+    assert {*b.run(LOOKS, [(one, "text-overflow") for one in cut])} == {"ellipsis"}
+    assert {*b.run(LOOKS, [(one, "overflow-x") for one in cut])} == {"hidden"}
+    scrolls = ("#list", "#tree", "#answer", "#more", "#plots")
+    assert {*b.run(LOOKS, [(one, "overflow-y") for one in scrolls])} == {"auto"}
+    assert {*b.run(LOOKS, [(one, "white-space-collapse") for one in ("#answer", "#tip")])} == {"preserve"}
+    assert {*b.run(LOOKS, [(one, "overflow-wrap") for one in ("h1", "#answer", "#more h3", "#tip", "figcaption")])} == {
+        "anywhere"
+    }
+    numbers = ("#tree .number-cell", "#moment")
+    assert {*b.run(LOOKS, [(one, "font-variant-numeric") for one in numbers])} == {"tabular-nums"}
+    assert {*b.run(LOOKS, [(one, "text-align") for one in (*numbers, "#list .number")])} == {"right"}
+    assert all(
+        "monospace" in it
+        for it in b.run(LOOKS, [(one, "font-family") for one in ("#list", "#answer", "#tree", "#tip")])
+    )
+    assert b.run(LOOKS, [("#tip", "position"), ("#tip", "pointer-events")]) == [
+        "fixed",
+        "none",
+    ], "it hides no mark from the pointer"
+
+
 # ---- forced colours
 
 
