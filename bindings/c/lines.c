@@ -99,7 +99,7 @@ static bool is_between_words(uint8_t byte)
 	return byte == ' ' || byte == '\t' || byte == '\r';
 }
 
-/* the second word of a line, if it is a path and the line is not a comment */
+/* the second word of a line, if it has one and is not a comment: faults are those of paths */
 static size_t path_of_line(const uint8_t *line, size_t len, const uint8_t **path)
 {
 	size_t at = 0, from;
@@ -116,7 +116,7 @@ static size_t path_of_line(const uint8_t *line, size_t len, const uint8_t **path
 	while (at < len && !is_between_words(line[at]))
 		at++;
 	*path = line + from;
-	return at > from && line[from] == '/' ? at - from : 0;
+	return at - from;
 }
 
 /* the faults at a call that names the path of the line */

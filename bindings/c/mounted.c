@@ -189,7 +189,6 @@ static uint32_t put(mk0_handle *engine, const char *path, const char *name, cons
 		*told = (mk0_info){ .code = file->value == NOTHING ? MK_DIRECTION : MK_VALUE };
 		return MK_FAULT;
 	}
-	*told = (mk0_info){ 0 };
 	if (file->value == A_SWITCH)
 		return freezer_set(slot_of(engine), path, said[0] == '1');
 	if (said[0] == 0)

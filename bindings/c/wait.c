@@ -92,7 +92,6 @@ static uint32_t look(mk0_handle *engine, const struct line *line, struct answer 
 	struct slot *slot = slot_of(engine);
 	struct fault *faults = slot->faults;
 	slot->faults = NULL;
-	*told = (mk0_info){ 0 };
 	uint32_t status = ask_long(engine, line, NULL, 0, answer, told);
 	slot->faults = faults;
 	told->len = status == MK_DONE ? take_text(answer->bytes, told->len, answer->bytes) : 0;

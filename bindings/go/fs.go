@@ -70,7 +70,7 @@ func (f FS) find(operation, name string) (*node, error) {
 func (f FS) node(name string) (*node, error) {
 	group, base := groupOf(path.Dir(name)), path.Base(name)
 	it, isFile := fileNamed(base, group)
-	if isFile && name != "." {
+	if isFile {
 		text, err := f.h.get(group, base)
 		return &node{name: base, mode: it.mode(), text: text}, notFound(err)
 	}
@@ -223,7 +223,7 @@ func (f FS) WriteFile(name string, data []byte) error {
 // isFile says whether the name is that of a file in some group.
 func isFile(name string) bool {
 	_, ok := fileNamed(path.Base(name), groupOf(path.Dir(name)))
-	return ok && name != "."
+	return ok
 }
 
 // Mkdir makes the group of that name, as os.Mkdir does. The error is that of Hierarchy.Mkdir, or an errno of a mount for a name that

@@ -103,7 +103,6 @@ func (c *call) end() {
 // told returns the bytes of the call's answer, which are valid until the call ends. Another goroutine may make the
 // answer longer between two calls, so the buffer may grow more than once, but not beyond the longest answer.
 func (c *call) told(what command, do func() C.uint32_t) ([]byte, error) {
-	c.info = C.mk_info{}
 	c.out = c.first[:]
 	for {
 		status := do()
@@ -141,7 +140,7 @@ func shown(answer []byte) string {
 // asked returns the text that a call's answer shows.
 func (h *Hierarchy) asked(c *call, what command, do func() C.uint32_t) (string, error) {
 	answer, err := c.told(what, do)
-	if err != nil || len(answer) == 0 {
+	if err != nil {
 		return "", err
 	}
 	return shown(answer), nil

@@ -98,6 +98,45 @@ func TestAWatchOfAFileThatGrows(t *testing.T) {
 	says(t, "closed", next(t, texts), nil)
 }
 
+// More room keeps the text that was seen, which isn't sent again.
+func TestMoreRoomKeepsTheTextThatWasSeen(t *testing.T) {
+	h := open(t)
+	do(t, h, "mkdir /a")
+	w := newWatch(h, "/a", "pids.max")
+	defer w.free()
+	text, _ := w.next(context.Background())
+	says(t, "max\n", text, nil)
+	w.grow(1)
+	w.grow(5000)
+	ctx, stop := context.WithTimeout(context.Background(), 2*slice)
+	defer stop()
+	if text, ok := w.next(ctx); ok {
+		t.Errorf("%q once more", text)
+	}
+	do(t, h, "write /a pids.max 7")
+	text, _ = w.next(context.Background())
+	says(t, "7\n", text, nil)
+}
+
+// The rooms that became too small would take a page of memory each.
+func TestMoreRoomLeavesNoMemory(t *testing.T) {
+	h := open(t)
+	use := func(rounds int) {
+		for i := 0; i < rounds; i++ {
+			w := newWatch(h, "/a", "pids.max")
+			w.grow(200_000)
+			w.grow(1)
+			w.free()
+		}
+	}
+	use(500)
+	before := memory(t)
+	use(10_000)
+	if grown := memory(t) - before; grown > 15_000_000 {
+		t.Errorf("%d bytes more", grown)
+	}
+}
+
 func TestAWatchEndsWithItsContextAndWithoutAFile(t *testing.T) {
 	h := open(t)
 	do(t, h, "mkdir /a")

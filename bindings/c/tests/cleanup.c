@@ -1,17 +1,22 @@
 /* No call leaves memory behind, whether it succeeds, is refused, fails by a fault or runs out of memory at any of its allocations: each
-   allocation and each free is counted. Link with -Wl,--wrap=malloc,--wrap=calloc,--wrap=realloc,--wrap=free,--wrap=pthread_mutex_init,
-   --wrap=pthread_condattr_init,--wrap=pthread_condattr_setclock,--wrap=pthread_cond_init. Exits with the number of the first check that
-   fails, or 0, and prints how many held. */
+   allocation and each free is counted. Link with -Wl,--wrap=malloc,--wrap=calloc,--wrap=realloc,--wrap=free and --wrap=pthread_ with
+   each of mutex_init, mutex_destroy, condattr_init, condattr_destroy, condattr_setclock, cond_init and atfork. Exits with the number of
+   the first check that fails, or 0, and prints how many held. */
 #include "check.h"
 #include <pthread.h>
+#include <sys/wait.h>
 #include <time.h>
+#include <unistd.h>
 
 void *__real_malloc(size_t size);
 void *__real_calloc(size_t count, size_t size);
 void *__real_realloc(void *at, size_t size);
 void __real_free(void *at);
 int __real_pthread_mutex_init(pthread_mutex_t *lock, const pthread_mutexattr_t *how);
+int __real_pthread_mutex_destroy(pthread_mutex_t *lock);
 int __real_pthread_condattr_init(pthread_condattr_t *how);
+int __real_pthread_condattr_destroy(pthread_condattr_t *how);
+int __real_pthread_atfork(void (*before)(void), void (*after)(void), void (*in_child)(void));
 int __real_pthread_condattr_setclock(pthread_condattr_t *how, clockid_t clock);
 int __real_pthread_cond_init(pthread_cond_t *condition, const pthread_condattr_t *how);
 void *__wrap_malloc(size_t size);
@@ -19,7 +24,10 @@ void *__wrap_calloc(size_t count, size_t size);
 void *__wrap_realloc(void *at, size_t size);
 void __wrap_free(void *at);
 int __wrap_pthread_mutex_init(pthread_mutex_t *lock, const pthread_mutexattr_t *how);
+int __wrap_pthread_mutex_destroy(pthread_mutex_t *lock);
 int __wrap_pthread_condattr_init(pthread_condattr_t *how);
+int __wrap_pthread_condattr_destroy(pthread_condattr_t *how);
+int __wrap_pthread_atfork(void (*before)(void), void (*after)(void), void (*in_child)(void));
 int __wrap_pthread_condattr_setclock(pthread_condattr_t *how, clockid_t clock);
 int __wrap_pthread_cond_init(pthread_cond_t *condition, const pthread_condattr_t *how);
 
@@ -64,19 +72,34 @@ void __wrap_free(void *at)
 	__real_free(at);
 }
 
-/* ---- the parts of a lock: which of them can't be had */
+/* ---- the parts of a lock: which of them can't be had, and how many there are of those that have an end */
 
 enum part { LOCK, CLOCK_OF, CLOCK_SET, CONDITION, PARTS };
 static int missing = PARTS;
+static int locks, clocks;
 
 int __wrap_pthread_mutex_init(pthread_mutex_t *lock, const pthread_mutexattr_t *how)
 {
+	locks += missing != LOCK;
 	return missing == LOCK ? EAGAIN : __real_pthread_mutex_init(lock, how);
+}
+
+int __wrap_pthread_mutex_destroy(pthread_mutex_t *lock)
+{
+	locks--;
+	return __real_pthread_mutex_destroy(lock);
 }
 
 int __wrap_pthread_condattr_init(pthread_condattr_t *how)
 {
+	clocks += missing != CLOCK_OF;
 	return missing == CLOCK_OF ? ENOMEM : __real_pthread_condattr_init(how);
+}
+
+int __wrap_pthread_condattr_destroy(pthread_condattr_t *how)
+{
+	clocks--;
+	return __real_pthread_condattr_destroy(how);
 }
 
 int __wrap_pthread_condattr_setclock(pthread_condattr_t *how, clockid_t clock)
@@ -87,6 +110,14 @@ int __wrap_pthread_condattr_setclock(pthread_condattr_t *how, clockid_t clock)
 int __wrap_pthread_cond_init(pthread_cond_t *condition, const pthread_condattr_t *how)
 {
 	return missing == CONDITION ? EAGAIN : __real_pthread_cond_init(condition, how);
+}
+
+/* In the environment of a program whose library can't watch forks. */
+#define UNWATCHED "MAKHLOEUM_UNWATCHED"
+
+int __wrap_pthread_atfork(void (*before)(void), void (*after)(void), void (*in_child)(void))
+{
+	return getenv(UNWATCHED) != NULL ? ENOMEM : __real_pthread_atfork(before, after, in_child);
 }
 
 /* ---- calls, each in a hierarchy with /a, /a/b, process 2 in /a/b, a limit that is reached, and a long list in /many */
@@ -253,8 +284,10 @@ static int each_part_of_a_lock(void)
 	CHECK(mk_open(&h) == MK_DONE && mk_open(&other) == MK_DONE);
 	for (missing = 0; missing < PARTS; missing++) {
 		long before = live;
+		int locks_before = locks;
 		CHECK(mk_open(&third) == MK_OUT_OF_MEMORY && live == before && mk_close(&third) == MK_CLOSED);
 		CHECK(mk_copy(&h, &third) == MK_OUT_OF_MEMORY && live == before && mk_close(&third) == MK_CLOSED);
+		CHECK(locks == locks_before && clocks == 0);
 		int which = missing;
 		missing = PARTS;
 		CHECK(mk_open(&more[which]) == MK_DONE && mk_mkdir(&more[which], "/a", &info) == MK_DONE);
@@ -266,8 +299,25 @@ static int each_part_of_a_lock(void)
 	return 0;
 }
 
+/* A library that can't watch forks opens nothing: a child could wait for ever for a lock that another thread had. */
+static int unwatched_forks(void)
+{
+	int status;
+	pid_t child = fork();
+	CHECK(child >= 0);
+	if (child == 0) {
+		setenv(UNWATCHED, "yes", 1);
+		execl("/proc/self/exe", "cleanup", (char *)NULL);
+		_exit(2);
+	}
+	CHECK(waitpid(child, &status, 0) == child && WIFEXITED(status) && WEXITSTATUS(status) == 0);
+	return 0;
+}
+
 int main(void)
 {
-	int (*const parts[])(void) = { each_call, each_part_of_a_lock };
+	int (*const parts[])(void) = { each_call, each_part_of_a_lock, unwatched_forks };
+	if (getenv(UNWATCHED) != NULL)
+		return mk_open(&h) == MK_OUT_OF_MEMORY && mk_open(&h) == MK_OUT_OF_MEMORY && live == 0 ? 0 : 1;
 	return run_and_close(parts, sizeof parts / sizeof *parts);
 }

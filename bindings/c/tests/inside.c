@@ -1,8 +1,14 @@
 /* Calls of a signal handler that interrupts a call of its own thread: each is refused, also on a handle that is closed or another's,
-   and the interrupted call does what it does. The signal comes at each allocation of the call. Link with -Wl,--wrap=malloc,--wrap=calloc,
-   --wrap=realloc. Exits with the number of the first check that fails, or 0, and prints how many held. */
+   and the interrupted call does what it does. The signal comes at each allocation of the call. So is a call during a fork. Link with
+   -Wl,--wrap=malloc,--wrap=calloc,--wrap=realloc. Exits with the number of the first check that fails, or 0, and prints how many held.
+   A hang ends it by SIGALRM. */
 #include "check.h"
+#include <pthread.h>
 #include <signal.h>
+#include <sys/wait.h>
+#include <unistd.h>
+
+enum { PATIENCE_SECONDS = 120 };
 
 void *__real_malloc(size_t size);
 void *__real_calloc(size_t count, size_t size);
@@ -61,12 +67,49 @@ static int not_refused(void)
 	return mk_depth(&other, &depth) != MK_BUSY ? 5 : 0;
 }
 
+/* Whether the child of a fork ends well. It makes calls, unless the fork is that of a handler: then it may not. */
+static bool child_ends_well(bool calls)
+{
+	pid_t child = fork();
+	if (child == 0) {
+		alarm(PATIENCE_SECONDS);
+		if (calls &&
+			(mk_mkdir(&h, "/child", &info) != MK_DONE || mk_close(&other) != MK_DONE || mk_open(&other) != MK_DONE))
+			_exit(1);
+		_exit(0);
+	}
+	int status;
+	return child > 0 && waitpid(child, &status, 0) == child && WIFEXITED(status) && WEXITSTATUS(status) == 0;
+}
+
+static bool forks; /* the handler forks at the next signal */
+
 static void handler(int number)
 {
 	(void)number;
 	handled++;
 	if (wrong == 0)
 		wrong = not_refused();
+	if (forks && !child_ends_well(false))
+		wrong = 6;
+	forks = false;
+}
+
+static bool looks; /* calls are made while a fork has locked every engine */
+
+static void while_all_are_locked(void)
+{
+	if (!looks)
+		return;
+	handled++;
+	wrong = not_refused();
+}
+
+/* Before the library prepares for forks: what was prepared first runs last. */
+__attribute__((constructor(101))) static void prepare_first(void)
+{
+	if (pthread_atfork(while_all_are_locked, NULL, NULL) != 0)
+		abort();
 }
 
 /* Whether the handler ran since the last time, and each of its calls was refused. */
@@ -97,8 +140,33 @@ static int calls(void)
 	return 0;
 }
 
+/* A handler that interrupted a call must not fork. If it does all the same, nobody waits for ever, neither then nor at a later fork. */
+static int forks_of_a_handler(void)
+{
+	CHECK(mk_open(&other) == MK_DONE);
+	for (int round = 0; round < 2; round++) {
+		interrupts = forks = true;
+		CHECK(done(mk_mkdir(&h, "/f", &info)) && were_refused() && !forks);
+		interrupts = false;
+		CHECK(child_ends_well(true) && done(mk_rmdir(&h, "/f", &info)));
+	}
+	return 0;
+}
+
+static int calls_during_a_fork(void)
+{
+	looks = true;
+	CHECK(child_ends_well(true) && were_refused());
+	looks = false;
+	CHECK(mk_close(&other) == MK_DONE);
+	return 0;
+}
+
 int main(void)
 {
-	int (*const parts[])(void) = { calls };
-	return mk_open(&h) == MK_DONE ? run_and_close(parts, 1) : 1;
+	int (*const parts[])(void) = { calls, forks_of_a_handler, calls_during_a_fork };
+	if (mk_open(&h) != MK_DONE)
+		return 1;
+	alarm(PATIENCE_SECONDS);
+	return run_and_close(parts, sizeof parts / sizeof *parts);
 }

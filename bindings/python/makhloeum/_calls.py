@@ -244,6 +244,8 @@ class Calls(DescriptorCalls):
         if node is None:
             return self.was["open"](file, mode, buffering, encoding, errors, newline, closefd, opener)
         binary = _is_binary(mode, buffering, encoding, errors, newline)
+        if not closefd and not isinstance(file, int):
+            raise ValueError("Cannot use closefd=False with file name")
         if opener is not None and not isinstance(file, int):
             fd = opener(file, _flags(mode))
             return self.open(fd, mode, buffering, encoding, errors, newline)
@@ -267,8 +269,6 @@ class Calls(DescriptorCalls):
     def _file(self, file: Any, node: Node, mode: str, closefd: bool) -> Shared:
         if isinstance(file, int):
             return Shared(self.descriptors, file, closefd, file)
-        if not closefd:
-            raise ValueError("Cannot use closefd=False with file name")
         raw = self._opened(node, _flags(mode))
         if isinstance(raw, Node):
             raise error(errno.EISDIR, node.shown)

@@ -22,18 +22,18 @@ def enter_parent(node: Node) -> None:
     node.tree.enter(node.path if node.last in _DOTS else node.path.rpartition("/")[0], node.shown)
 
 
-def check_new(node: Node, is_group: bool = False) -> None:
+def check_new(node: Node) -> None:
     """Raises what is wrong with a name that is to be made."""
     enter_parent(node)
     if node.last in _DOTS or node.exists():
         raise error(errno.EEXIST, node.shown)
-    if node.is_folder and not is_group:
+    if node.is_folder:
         raise error(errno.ENOENT, node.shown)
 
 
 def mkdir(node: Node) -> None:
     if node.last in _DOTS:
-        check_new(node, True)
+        check_new(node)
     node.tree.mkdir(node)
 
 
@@ -61,7 +61,7 @@ def _tree_of_name(node: Node | None) -> Tree | None:
 
 def _above(group: str, other: str) -> bool:
     """Whether the other path is at or below the first."""
-    return (other.rstrip("/") + "/").startswith(group.rstrip("/") + "/")
+    return (other + "/").startswith(group + "/")
 
 
 def rename(node: Node | None, to: Node | None) -> None:

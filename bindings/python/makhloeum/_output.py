@@ -63,11 +63,12 @@ class _Unbuffered(io.BufferedWriter):
 
 
 def _text(raw: io.FileIO, like: Any) -> io.TextIOWrapper:
-    """The stream as text, with the encoding and the buffer of another one."""
+    """The stream as text, with the encoding and the buffer of another one. What the encoding lacks is shown as \\xfc or \\udcff."""
+    errors = getattr(like, "errors", None)
     return io.TextIOWrapper(
         (_Unbuffered if getattr(like, "write_through", False) else io.BufferedWriter)(raw),
         encoding=getattr(like, "encoding", None),
-        errors=getattr(like, "errors", None),
+        errors="backslashreplace" if errors == "strict" else errors,
         line_buffering=getattr(like, "line_buffering", False),
         write_through=getattr(like, "write_through", False),
     )

@@ -264,7 +264,7 @@ class RawFile(io.RawIOBase):
         # a read that starts where the one before it ended continues that one's text
         if self.node.position == 0 or self.node.position != self._read_to:
             self._text = self._current()
-            if self.node.gone and self.node.file.readable:
+            if self.node.gone:
                 raise error(errno.ENODEV, self.name)
         part = self._text[self.node.position : self.node.position + len(buffer)]
         buffer[: len(part)] = part

@@ -66,10 +66,7 @@ def _value(value: Value) -> bytes:
 
 def _shown(answer: bytes) -> str:
     """The text after an answer's first line."""
-    lines = answer.partition(b"\n")[2]
-    if not lines:
-        return ""
-    text = lines.decode()
+    text = answer.partition(b"\n")[2].decode()
     # each line begins with a bar and a blank
     return text[2:].replace("\n| ", "\n")
 

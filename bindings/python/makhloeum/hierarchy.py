@@ -346,7 +346,7 @@ class Hierarchy(Changes, Faults, Many):
         """Whether there is a group at `path`. Raises BadPath if the text is not a path."""
         text, info = _bytes(path), Info()
         status = self._call("mk_has_group", text, len(text), ctypes.byref(info))
-        if status == REFUSED and info.code == NoGroup.code:
+        if status == REFUSED:  # there is no other reason
             return False
         if status != DONE:
             self._refuse(status, info, f"has_group {_text(path)}", path)

@@ -93,6 +93,8 @@ FLAGS = [
     os.O_WRONLY | os.O_DIRECTORY,
     os.O_RDWR | os.O_APPEND,
     os.O_RDONLY | os.O_NOFOLLOW | os.O_CLOEXEC,
+    os.O_RDONLY | os.O_TRUNC,
+    *(os.O_PATH | more for more in (0, os.O_WRONLY, os.O_RDWR | os.O_TRUNC, os.O_CREAT | os.O_EXCL, os.O_DIRECTORY)),
 ]
 
 
@@ -111,6 +113,26 @@ def test_a_file_or_group_is_opened_as_a_real_one(h, real, name, flags):
     assert found[0] == found[1]
 
 
+@pytest.mark.parametrize("flags", [os.O_PATH, os.O_PATH | os.O_RDWR])
+def test_a_descriptor_that_only_names_a_file(h, real, flags):
+    for top in (AT, real):
+        fd = os.open(f"{top}/a/pids.max", flags)
+        for call, *words in (
+            (os.read, 9),
+            (os.readv, [bytearray(1)]),
+            (os.pread, 9, 0),
+            (os.write, b"1"),
+            (os.pwrite, b"1", 0),
+            (os.lseek, 0, os.SEEK_SET),
+        ):
+            assert code(call, fd, *words) == "EBADF", call
+        assert stat.S_ISREG(os.fstat(fd).st_mode)
+        for call in (os.stat, os.mkdir, os.rmdir, os.unlink):
+            assert code(call, "x", dir_fd=fd) == code(call, "pids.max", dir_fd=fd) == "ENOTDIR", call
+        os.close(fd)
+    assert h.groups() == ["/", "/a"]
+
+
 def test_only_the_kernels_own_files_can_be_made(h):
     for flags in (
         os.O_WRONLY | os.O_CREAT,
@@ -124,6 +146,7 @@ def test_only_the_kernels_own_files_can_be_made(h):
         f"{AT}/a",
     )
     assert told(os.open, f"{AT}/a/new", os.O_RDONLY) == ("ENOENT", f"{AT}/a/new")
+    assert told(os.open, f"{AT}/a/pids.max", os.O_RDONLY | os.O_DIRECT) == ("EINVAL", f"{AT}/a/pids.max")
 
 
 def test_descriptors_are_inherited_as_those_of_real_files(h, real):
@@ -245,6 +268,7 @@ def test_a_file_that_is_open_in_one_way(h, real, flags, call):
         ("r", {"newline": "x"}),
         ("r", {"encoding": "none"}),
         ("r", {"closefd": False}),
+        ("r", {"closefd": False, "opener": os.open}),
     ],
 )
 def test_words_that_open_does_not_take(h, real, mode, more):
@@ -267,6 +291,9 @@ def test_names_beside_a_descriptor(h, real):
         with pytest.raises(FileNotFoundError):
             os.stat("none/../a", dir_fd=fd)
         assert not os.access("b", os.F_OK, dir_fd=fd) and code(os.stat, "b", dir_fd=fd) == "ENOENT"
+        assert told(os.stat, "", dir_fd=fd) == told(os.rmdir, "", dir_fd=fd) == ("ENOENT", "")
+        assert os.lseek(fd, 0, os.SEEK_SET) == os.lseek(fd, 0, os.SEEK_CUR) == 0
+        assert code(os.lseek, fd, -1, os.SEEK_SET) == "EINVAL"
         assert (
             os.mkdir("b", dir_fd=fd) is None
             and os.path.isdir(f"{top}/b")
@@ -297,6 +324,7 @@ def test_a_removed_folder_is_still_the_one_of_its_descriptor(h, real):
         assert os.fstat(fd).st_ino == os.stat(".", dir_fd=fd).st_ino == os.lstat("./", dir_fd=fd).st_ino == number
         assert number != os.stat(top).st_ino and os.access(".", os.R_OK, dir_fd=fd)
         assert code(os.stat, "b", dir_fd=fd) == code(os.mkdir, "b", dir_fd=fd) == "ENOENT"
+        assert (code(os.unlink, ".", dir_fd=fd), code(os.rmdir, ".", dir_fd=fd)) == ("EISDIR", "EINVAL")
         os.close(fd)
 
 
@@ -314,30 +342,32 @@ def test_a_file_is_no_folder(h, real):
 def test_a_slash_after_a_file(h, real):
     """It says that a folder is meant."""
     for top in (AT, real):
-        path = f"{top}/a/pids.max/"
-        for call in (os.stat, os.lstat, os.listdir, os.rmdir, os.unlink, os.readlink, open):
-            assert told(call, path) == ("ENOTDIR", path), call
-        assert told(os.chmod, path, 0o600) == told(os.truncate, path, 0) == ("ENOTDIR", path)
-        assert not os.path.exists(path) and not os.access(path, os.F_OK)
+        for path in (f"{top}/a/pids.max/", f"{top}/a/pids.max/.", f"{top}/a/pids.max//./"):
+            for call in (os.stat, os.lstat, os.listdir, os.rmdir, os.unlink, os.readlink, open):
+                assert told(call, path) == ("ENOTDIR", path), call
+            assert told(os.chmod, path, 0o600) == told(os.truncate, path, 0) == ("ENOTDIR", path)
+            assert not os.path.exists(path) and not os.access(path, os.F_OK)
         assert told(os.stat, f"{top}/none/pids.max/") == ("ENOENT", f"{top}/none/pids.max/")
         assert stat.S_ISDIR(os.stat(f"{top}/a/").st_mode) and stat.S_ISDIR(os.lstat(f"{top}/a/").st_mode)
 
 
 @pytest.mark.parametrize(
-    "name, of_unlink, of_rmdir",
+    "name, of_unlink, of_rmdir, of_mkdir",
     [
-        ("a/.", "EISDIR", "EINVAL"),
-        ("a/..", "EISDIR", "ENOTEMPTY"),
-        ("none/.", "ENOENT", "ENOENT"),
-        ("none/..", "ENOENT", "ENOENT"),
-        ("a/pids.max/.", "ENOTDIR", "ENOTDIR"),
-        ("none/pids.max/.", "ENOENT", "ENOENT"),
+        ("a/.", "EISDIR", "EINVAL", "EEXIST"),
+        ("a/..", "EISDIR", "ENOTEMPTY", "EEXIST"),
+        ("none/.", "ENOENT", "ENOENT", "ENOENT"),
+        ("none/..", "ENOENT", "ENOENT", "ENOENT"),
+        ("a/pids.max/.", "ENOTDIR", "ENOTDIR", "ENOTDIR"),
+        ("none/pids.max/.", "ENOENT", "ENOENT", "ENOENT"),
     ],
 )
-def test_what_is_above_a_point_comes_first(h, real, name, of_unlink, of_rmdir):
+def test_what_is_above_a_point_comes_first(h, real, name, of_unlink, of_rmdir, of_mkdir):
     for top in (AT, real):
         path = f"{top}/{name}"
         assert (told(os.unlink, path), told(os.rmdir, path)) == ((of_unlink, path), (of_rmdir, path)), top
+        assert told(os.mkdir, path) == (of_mkdir, path), top
+    assert h.groups() == ["/", "/a"]
 
 
 @pytest.mark.parametrize("name", ["a\0", "\0", "a\0/pids.max", "a/pids.max\0x", "none/../\0"])
@@ -364,9 +394,44 @@ def test_two_paths_beside_descriptors(h, real):
     assert code(os.unlink, "none", dir_fd=served) == "ENOENT" and code(os.mkfifo, "x", dir_fd=served) == "EPERM"
     os.rename("a/pids.max", "moved", src_dir_fd=folder, dst_dir_fd=folder)
     os.symlink("moved", "link", dir_fd=folder)
-    assert os.readlink("link", dir_fd=folder) == "moved" and sorted(os.listdir(real)) == ["a", "link", "moved"]
+    os.link("link", "same", src_dir_fd=folder, dst_dir_fd=folder, follow_symlinks=False)
+    assert os.readlink("link", dir_fd=folder) == os.readlink("same", dir_fd=folder) == "moved"
+    assert sorted(os.listdir(real)) == ["a", "link", "moved", "same"]
     for fd in (served, folder):
         os.close(fd)
+
+
+@pytest.mark.parametrize(
+    "name, to, wanted",
+    [
+        ("a", "a", "ok"),
+        ("a/pids.max", "a/pids.max", "ok"),
+        ("none", "x", "ENOENT"),
+        ("a/none", "none", "ENOENT"),
+        ("none/x", "x", "ENOENT"),
+        ("a", "none/x", "ENOENT"),
+        ("a", "a/pids.max/x", "ENOTDIR"),
+        ("a/.", "x", "EBUSY"),
+        ("a", "b/..", "EBUSY"),
+        ("none/.", "x", "ENOENT"),
+        ("a", "a/x", "EINVAL"),
+        ("b", "b/c/x", "EINVAL"),
+        ("b/c", "b", "ENOTEMPTY"),
+        ("a/pids.max", "a", "ENOTEMPTY"),
+        ("a/pids.max", "b", "EISDIR"),
+        ("b", "a/pids.max", "ENOTDIR"),
+        ("a/pids.max/", "a/x", "ENOTDIR"),
+        ("a/pids.max", "a/x/", "ENOTDIR"),
+        ("a/none/", "a/pids.max", "ENOENT"),
+    ],
+)
+def test_a_rename_that_changes_nothing(h, real, name, to, wanted):
+    for top in (AT, real):
+        os.makedirs(f"{top}/b/c")
+        for call in (os.rename, os.replace):
+            assert code(call, f"{top}/{name}", f"{top}/{to}") == wanted, top
+        assert os.path.isdir(f"{top}/b/c") and os.path.isfile(f"{top}/a/pids.max")
+    assert h.groups() == ["/", "/a", "/b", "/b/c"]
 
 
 def test_a_real_directory_has_the_mode_that_is_asked_for(h, real):
@@ -547,6 +612,14 @@ def test_a_touch_makes_no_file(h, name, wanted):
     assert h.groups() == ["/", "/a"]
 
 
+def test_a_file_is_synced_and_a_group_is_not(h):
+    file, group = os.open(f"{AT}/a/pids.max", os.O_RDONLY), os.open(f"{AT}/a", os.O_RDONLY)
+    for sync in (os.fsync, os.fdatasync):
+        assert sync(file) is None and code(sync, group) == "EINVAL", sync
+    for fd in (file, group):
+        os.close(fd)
+
+
 def test_calls_of_a_descriptor_that_do_nothing(h):
     fd = os.open(f"{AT}/a/pids.max", os.O_RDWR)
     assert [
@@ -576,7 +649,9 @@ def test_real_files_change_meanwhile(h, real):
     os.link(file, f"{real}/linked")
     os.symlink(file, f"{real}/link")
     assert os.readlink(f"{real}/link") == file and stat.S_ISFIFO(os.lstat(f"{real}/fifo").st_mode)
-    for name in ("fifo", "linked", "link", "a/pids.max"):
+    os.symlink("nowhere", f"{real}/broken")
+    assert [os.access(f"{real}/broken", os.F_OK, follow_symlinks=it) for it in (True, False)] == [False, True]
+    for name in ("fifo", "linked", "link", "broken", "a/pids.max"):
         os.unlink(f"{real}/{name}")
     os.rmdir(f"{real}/a")
     assert os.listdir(real) == []
@@ -705,6 +780,8 @@ def test_a_long_path_of_short_names(h, real, call, name):
             assert told(getattr(os, call), long, *more) == ("ENAMETOOLONG", long)
             assert told(open, long) == told(open, long, "w") == ("ENAMETOOLONG", long)
             assert not os.access(long, os.F_OK) and not os.path.exists(long)
+        odd = f"{top}/" + "\u00e9/" * (TEXT_MAX // 3)  # its letters are fewer than its bytes
+        assert told(getattr(os, call), odd, *more) == ("ENAMETOOLONG", odd)
         # one byte less
         assert os.path.isdir(f"{top}/".ljust(TEXT_MAX, "/"))
     assert h.groups() == ["/", "/a"]

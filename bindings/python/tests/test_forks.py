@@ -9,6 +9,7 @@ import time
 import warnings
 
 import pytest
+from open_files import open_files
 
 from makhloeum import mounted_at
 from makhloeum._calls import CALLS
@@ -159,6 +160,17 @@ def test_a_child_has_its_own_notifications(hierarchy):
             assert in_a_child(read) == 0 and waiting.poll(0)
             file.seek(0)
             assert file.read() == "populated 1\nfrozen 0\n" and not waiting.poll(0)
+
+
+def test_a_child_has_no_more_open_files_than_its_parent(hierarchy):
+    """Its sockets take the places of those of its parent."""
+    hierarchy.mkdir("/a")
+    with mounted_at(AT, hierarchy):
+        fds = [os.open(f"{AT}/a/{name}", os.O_RDONLY) for name in ("cgroup.events", "pids.events", "pids.max", "")]
+        count = len(open_files())
+        assert in_a_child(lambda: len(open_files()) == count) == 0
+        for fd in fds:
+            os.close(fd)
 
 
 def test_a_child_inherits_descriptors_as_before_the_fork(hierarchy):

@@ -4,6 +4,7 @@ import builtins
 import inspect
 import io
 import re
+import sys
 
 import pytest
 
@@ -69,6 +70,19 @@ def test_options_are_the_first_word_alone(capsys, tmp_path, monkeypatch):
         assert capsys.readouterr().err == f"makhloeum: [Errno 2] No such file or directory: '{word}'\n"
     assert program.main(["--version", "script"]) == 1
     assert capsys.readouterr().err == "makhloeum: [Errno 2] No such file or directory: '--version'\n"
+
+
+def test_a_script_is_answered_at_a_terminal_too(capsys, tmp_path, monkeypatch):
+    """Whatever bytes its comments have."""
+
+    class Terminal(io.StringIO):
+        def isatty(self):
+            return True
+
+    (tmp_path / "script").write_bytes(b"# caf\xe9\nwhere 1\n")
+    monkeypatch.setattr(sys, "stdin", Terminal())
+    assert program.main([str(tmp_path / "script")]) == 0
+    assert capsys.readouterr() == ("0::/\n", "")
 
 
 # ---- lines

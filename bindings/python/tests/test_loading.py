@@ -150,3 +150,11 @@ def test_after_an_interrupt_the_process_ends_by_the_signal():
     words = ["env", "--default-signal=INT", sys.executable, "-c", script]
     ran = subprocess.run(words, env=dict(os.environ, PYTHONPATH=str(PYTHON)), capture_output=True, text=True)
     assert (ran.returncode, ran.stdout, ran.stderr) == (-signal.SIGINT, "cleaned up\n", "")
+    # a process that can't end by it has the status that a shell tells then
+    blocked = (
+        "def main(words):\n    signal.pthread_sigmask(signal.SIG_BLOCK, [signal.SIGINT])\n    raise KeyboardInterrupt\n"
+    )
+    script = f"import signal, sys\nfrom makhloeum._interrupts import ended_by_interrupt\n{blocked}sys.exit(ended_by_interrupt(main, []))\n"
+    words[-1] = script
+    ran = subprocess.run(words, env=dict(os.environ, PYTHONPATH=str(PYTHON)), capture_output=True, text=True)
+    assert (ran.returncode, ran.stdout, ran.stderr) == (130, "", "")

@@ -131,6 +131,34 @@ def test_blocks_in_threads(tmp_path):
     assert not failures and not any(thread.is_alive() for thread in threads)
 
 
+@pytest.mark.parametrize("ends", [False, True])
+def test_a_block_begins_while_another_begins_or_ends(tmp_path, monkeypatch, ends):
+    """In another thread: it waits until all functions are in their places, or are taken away."""
+    name = "take_away" if ends else "put"
+    real, calls, begun, other = getattr(CALLS._replacement, name), [], threading.Event(), threading.Event()
+
+    def slowly():
+        calls.append(name)
+        begun.set()
+        other.wait(0.3)  # nobody may come meanwhile
+        real()
+
+    first, second = mounted_at(tmp_path / "one"), mounted_at(tmp_path / "two")
+    if ends:
+        first.__enter__()
+    with monkeypatch.context() as patched:
+        patched.setattr(CALLS._replacement, name, slowly)
+        thread = threading.Thread(target=lambda: first.__exit__(None, None, None) if ends else first.__enter__())
+        thread.start()
+        assert begun.wait(300)
+        second.__enter__()
+        other.set()
+        thread.join(300)
+    assert calls == [name] and os.path.isdir(tmp_path / "two") and os.path.isdir(tmp_path / "one") == (not ends)
+    for block in [second] if ends else [first, second]:
+        block.__exit__(None, None, None)
+
+
 def test_files_are_closed_while_a_block_ends(hierarchy):
     failures = []
 
@@ -206,6 +234,18 @@ def test_a_patch_that_ends_later_leaves_nothing():
         assert "cgroup.procs" in os.listdir(AT)
 
 
+def test_a_patch_that_comes_again_is_below():
+    """First over ours, where it stays when the block ends, and then below."""
+    block = mounted_at(AT)
+    block.__enter__()
+    with unittest.mock.patch("os.listdir", lambda path: ["patched"]) as patched:
+        block.__exit__(None, None, None)
+    with mounted_at(AT):
+        pass
+    with unittest.mock.patch("os.listdir", patched), mounted_at(AT):
+        assert "cgroup.procs" in os.listdir(AT) and os.listdir("/") == ["patched"]
+
+
 @pytest.mark.parametrize("wraps", [True, False])
 def test_patches_over_os_stat_in_two_blocks(tmp_path, wraps):
     """The first one is over ours when its block ends, so ours stays below; the second is over the first, or calls nobody."""
@@ -221,8 +261,8 @@ def test_patches_over_os_stat_in_two_blocks(tmp_path, wraps):
     for _ in range(2):
         with mounted_at(AT):
             assert os.stat(f"{AT}/cgroup.procs").st_size == 2 and code(os.stat, f"{AT}/none") == "ENOENT"
-            told = os.stat(tmp_path / "f")
-            assert told.st_size == 4 if wraps else told == "patched"
+            for told in (os.stat(tmp_path / "f"), os.stat(tmp_path / "f")):
+                assert told.st_size == 4 if wraps else told == "patched"
         assert second.called and (os.stat("/") == "patched" or stat.S_ISDIR(os.stat("/").st_mode))
     stack.close()
     assert os.stat(tmp_path / "f").st_size == 4 and code(os.stat, f"{AT}/cgroup.procs") == "ENOENT"
@@ -361,7 +401,7 @@ def test_files_share_a_descriptor_or_not(h):
         assert file.read(2) == b"ma" and file.fileno() == fd and file.name == fd
     assert os.read(fd, 9) == b"x\n"
     copy = os.dup(fd)
-    with open(copy) as file:
+    with open(copy, opener=lambda path, flags: 1 / 0) as file:  # which opens only what has a path
         pass
     assert code(os.read, copy, 1) == "EBADF" and os.pread(fd, 9, 0) == b"max\n"
     os.close(fd)
@@ -376,6 +416,10 @@ def test_files_share_a_descriptor_or_not(h):
     with open(f"{AT}/a/pids.max", "w", opener=os.open) as file:
         file.write("8")
     assert h.limit("/a") == 8
+    with open(f"{AT}/a/pids.max", "rb", 0, opener=os.open) as file:
+        assert isinstance(file, io.RawIOBase)
+    with open(f"{AT}/a/pids.max", "r", 1, "ascii", "ignore", "", opener=os.open) as file:
+        assert (file.line_buffering, file.encoding, file.errors, file.read()) == (True, "ascii", "ignore", "8\n")
 
 
 @pytest.mark.parametrize(
@@ -431,6 +475,9 @@ def test_scandir_and_listdir_by_path_bytes_and_descriptor(h):
         )
     with os.scandir(os.fsencode(f"{AT}/a")) as entries:
         assert os.fsencode(f"{AT}/a/b") in [entry.path for entry in entries]
+    with os.scandir(AT) as entries:
+        for entry in entries:
+            assert entry.stat() == os.stat(entry.path) == os.stat(f"{AT}/{entry.name}"), entry.name
     assert [it[2][-1] for it in os.fwalk(f"{AT}/a/b")] == [os.listdir(f"{AT}/a/b")[-1]]
     os.close(fd)
 
@@ -486,6 +533,16 @@ def test_real_files_are_not_moved_into_a_mount(h, tmp_path):
             == "ENOENT"
         )
         assert code(call, f"{AT}/none/f", tmp_path / "none" / "g") == "ENOENT"
+        # and both parents before it is seen that they are of two file systems
+        assert (
+            code(call, tmp_path / "none" / "f", f"{AT}/a/f")
+            == code(call, f"{AT}/a/pids.max", tmp_path / "none" / "g")
+            == "ENOENT"
+        )
+        assert code(call, tmp_path / "none", f"{AT}/a/f") == ("ENOENT" if call is os.link else "EXDEV")
+    # the text of a link is looked up only if it is a whole path
+    os.symlink(f"{AT}/a"[1:], tmp_path / "text")
+    os.unlink(tmp_path / "text")
     assert (
         code(os.symlink, tmp_path / "f", f"{AT}/a/f") == code(os.symlink, f"{AT}/a/pids.max", tmp_path / "g") == "EPERM"
     )
@@ -581,6 +638,8 @@ def test_calls_on_a_descriptor_that_are_not_served_raise(h):
             with pytest.raises(OSError):
                 call()
     assert code(os.pathconf, f"{AT}/a", "PC_NAME_MAX") == code(os.statvfs, AT) == code(os.chdir, AT) == "EOPNOTSUPP"
+    for it in (fd, group):
+        assert code(os.fchdir, it) == code(os.fstatvfs, it) == code(os.fpathconf, it, "PC_NAME_MAX") == "EOPNOTSUPP"
     assert (
         code(os.open, f"{AT}/a", os.O_TMPFILE | os.O_RDWR) == "EOPNOTSUPP"
         and os.fchmod(fd, 0o600) is None
@@ -665,6 +724,14 @@ def test_a_buffered_line_is_a_write(h):
         file.write("7")
         assert h.limit("/a") == 5
     assert h.limit("/a") == 7
+
+
+def test_a_text_is_written_with_the_words_that_are_given(h):
+    with open(f"{AT}/a/pids.max", "w", encoding="ascii", errors="ignore", newline="\r\n") as file:
+        assert (file.encoding, file.errors, file.write("\xe45\n")) == ("ascii", "ignore", 3)
+        file.flush()
+        assert os.lseek(file.fileno(), 0, os.SEEK_CUR) == 3, "a digit, and the two bytes that end a line"
+    assert h.limit("/a") == 5
 
 
 def test_a_hierarchy_is_mounted_only_once_it_is_one():

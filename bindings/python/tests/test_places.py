@@ -5,12 +5,13 @@ import errno
 import io
 import os
 import pathlib
+import re
 import stat
 import sys
 
 import pytest
 
-from makhloeum import mounted_at
+from makhloeum import _audit, mounted_at
 
 AT = "/sys/fs/cgroup"
 # bound before anything is mounted, as by `from os import ..` in a client
@@ -39,6 +40,7 @@ SPELLINGS = [
     "///sys/fs//cgroup/a",
     f"{AT}/./a/.",
     f"{AT}/b/../a",
+    f"{AT}/b/.//../a",
     "/sys/fs/../fs/cgroup/a",
     "/proc/../sys/fs/cgroup/a",
 ]
@@ -115,7 +117,8 @@ def test_an_early_name_is_refused_below_the_place_alone(h, tmp_path, name):
     for words in [*tries, *(tuple(os.fsencode(it) if isinstance(it, str) else it for it in words) for words in tries)]:
         with pytest.raises(OSError, match=r"mounted_at serves open and .* `makhloeum run`") as refused:
             EARLY[name](*words)
-        assert refused.value.errno == errno.EOPNOTSUPP
+        assert refused.value.errno == errno.EOPNOTSUPP and os.fsdecode(refused.value.filename) == below
+        assert re.match(r"(open|os\.\w+): mounted_at ", refused.value.strerror)
     assert os.listdir(tmp_path) == ["f"] and (tmp_path / "f").read_text() == "real"
     # elsewhere it is as before
     assert EARLY["listdir"](tmp_path) == ["f"]
@@ -134,6 +137,17 @@ def test_an_early_name_works_again_after_the_block(hierarchy, tmp_path):
             EARLY["mkdir"](f"{place}/a")
     EARLY["mkdir"](f"{place}/a")
     assert os.listdir(place) == ["a"]
+
+
+def test_one_hook_is_enough_for_all_blocks(hierarchy, monkeypatch):
+    """It can't be removed, and each call of the interpreter that it tells of takes time."""
+    hooks = []
+    monkeypatch.setattr(sys, "addaudithook", hooks.append)
+    monkeypatch.setattr(_audit, "_added", False)
+    for _ in range(3):
+        with mounted_at(AT, hierarchy):
+            pass
+    assert hooks == [_audit._hook]
 
 
 # ---- what a file and a file object tell

@@ -347,6 +347,61 @@ def test_each_of_several_threads_sees_the_last_change(h, ready):
         os.close(fd)
 
 
+class Met:
+    """A call in the middle of which another thread makes the same one, if nothing keeps it from that."""
+
+    def __init__(self, real):
+        self.real, self.calls = real, 0
+        self.begun, self.other = threading.Event(), threading.Event()
+
+    def __call__(self, *words, **more):
+        self.calls += 1
+        self.begun.set()
+        self.other.wait(0.3)
+        return self.real(*words, **more)
+
+    def met(self, call):
+        """Makes the call in two threads; how often it came to the middle."""
+        thread = REAL_THREAD(target=call)
+        thread.start()
+        assert self.begun.wait(PATIENCE / 1000)
+        call()
+        self.other.set()
+        thread.join(PATIENCE / 1000)
+        return self.calls
+
+
+REAL_THREAD = threading.Thread
+
+
+def test_two_files_that_are_opened_at_once_have_one_thread(hierarchy, monkeypatch):
+    hierarchy.mkdir("/a")
+    watch, pollers = _notify.Watch(hierarchy), [_notify.Poller("/a", "cgroup.events") for _ in range(2)]
+    left = list(pollers)
+    with monkeypatch.context() as patched:
+        made = Met(REAL_THREAD)
+        patched.setattr(_notify.threading, "Thread", made)
+        assert made.met(lambda: watch.add(left.pop())) == 1
+    assert sorted(map(id, watch._added())) == sorted(map(id, pollers))
+    watch.end()
+
+
+def test_a_file_of_two_threads_has_one_pair_of_sockets(monkeypatch):
+    poller, fds = _notify.Poller("/a", "cgroup.events"), []
+    made = Met(poller._pair)
+    monkeypatch.setattr(poller, "_pair", made)
+    assert made.met(lambda: fds.append(poller.descriptor())) == 1
+    for fd in fds:
+        assert by_poll(fd, 0)
+        os.close(fd)
+    poller.close()
+
+
+def test_how_long_the_end_of_a_block_may_wait():
+    """Its thread looks so often whether it should end."""
+    assert _notify._SLICE == 0.05
+
+
 def test_files_are_opened_while_groups_are_removed(h):
     """The list of open files is read while it grows."""
     stopped, failures = threading.Event(), []

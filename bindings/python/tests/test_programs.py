@@ -198,3 +198,13 @@ def test_several_scripts(shell, tmp_path):
     ran = subprocess.run(words, input="mkdir /z\nls\n", capture_output=True, text=True, timeout=600)
     assert (ran.returncode, ran.stderr) == (1, "")
     assert ran.stdout.split("\n")[:4] == ["0::/", "x/", "z/", "cgroup.procs"] and ran.stdout.count("File exists") == 1
+
+
+@pytest.mark.parametrize("encoding, shown", [("utf-8:strict", "\xfc\\udcff"), ("ascii:strict", "\\xfc\\udcff")])
+def test_a_word_that_the_encoding_of_the_output_lacks(tmp_path, encoding, shown):
+    script = tmp_path / "a"
+    script.write_bytes("rmdir /\xfc".encode() + b"\xff\n")
+    words = [sys.executable, "-m", "makhloeum", str(script)]
+    ran = subprocess.run(words, capture_output=True, timeout=600, env=dict(os.environ, PYTHONIOENCODING=encoding))
+    assert (ran.returncode, ran.stderr.decode()) == (1, "")
+    assert ran.stdout.decode() == f"rmdir /{shown}: Invalid argument (path)\n"

@@ -102,6 +102,25 @@ def test_access_is_that_of_the_owner(h, monkeypatch):
         assert found == allowed, name
 
 
+def test_a_file_is_opened_by_its_mode_alone(h, monkeypatch):
+    monkeypatch.setattr(os, "geteuid", lambda: 1000)
+    for name, flags, wanted in (
+        ("cgroup.kill", os.O_RDONLY, "EACCES"),
+        ("cgroup.kill", os.O_RDWR, "EACCES"),
+        ("cgroup.kill", os.O_WRONLY, None),
+        ("cgroup.kill", os.O_PATH, None),
+        ("pids.current", os.O_WRONLY, "EACCES"),
+        ("pids.current", os.O_RDWR, "EACCES"),
+        ("pids.current", os.O_RDONLY | os.O_TRUNC, "EACCES"),
+        ("pids.current", os.O_RDONLY, None),
+        ("pids.max", os.O_RDWR | os.O_TRUNC, None),
+    ):
+        if wanted is None:
+            os.close(os.open(f"{AT}/a/{name}", flags))
+        else:
+            assert code(os.open, f"{AT}/a/{name}", flags) == wanted, (name, flags)
+
+
 def test_files_are_not_programs(h):
     assert not os.access(f"{AT}/a/pids.max", os.X_OK) and not os.access(f"{AT}/a/pids.max", os.R_OK | os.X_OK)
     assert os.access(f"{AT}/a", os.R_OK | os.X_OK) and os.access(f"{AT}/a/pids.max", os.R_OK)

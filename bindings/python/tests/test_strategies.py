@@ -13,7 +13,7 @@ from hypothesis import HealthCheck, given, settings  # noqa: E402
 from hypothesis import strategies as st  # noqa: E402
 from hypothesis.stateful import invariant, run_state_machine_as_test  # noqa: E402
 
-from makhloeum import BadPath, Depth, Descendants, Hierarchy, PidsMax, Refused  # noqa: E402
+from makhloeum import BadPath, Depth, Descendants, Hierarchy, NoProcess, PidsMax, Refused  # noqa: E402
 from makhloeum._table import DEPTH_MAX, NAME_MAX, PID_MAX, PIDS_LIMIT_MAX, TEXT_MAX  # noqa: E402
 from makhloeum.strategies import HierarchyMachine, _blocking, _is_full, _is_name  # noqa: E402
 from makhloeum.strategies import commands, limits, names, paths, pids  # noqa: E402
@@ -253,6 +253,53 @@ def test_a_limit_is_set_on_the_group_that_it_then_blocks(data, limit):
     group = written.split(" ")[1]
     assert written.startswith(f"write {group} {file} ") and first == second and first.startswith(f"mkdir {group}/")
     assert isinstance(error, refused) and isinstance(again, refused)
+
+
+@FEW
+@given(st.data())
+def test_a_limit_that_would_refuse_first_is_taken_away(data):
+    machine = Recorded()
+    with machine.h as h:
+        machine.mkdir_at_a_descendants_limit(data=data)
+        [(made, error)] = machine.done
+        assert made.startswith("mkdir /") and error is None
+        group = made.split(" ")[1]
+        h.write(group, "cgroup.max.depth", 0)
+        machine.mkdir_at_a_descendants_limit(data=data)
+        assert machine.done[1:] == [(f"write {group} cgroup.max.depth max", None)]
+        machine.mkdir_at_a_descendants_limit(data=data)
+        (written, _), (_, error), (_, again) = machine.done[2:]
+        assert written == f"write {group} cgroup.max.descendants 0"
+        assert isinstance(error, Descendants) and isinstance(again, Descendants)
+
+
+# What there is before a fork at a limit, how many pids there may be, and the first command that is made.
+AT_A_LIMIT = [
+    ((), 3, "mkdir"),
+    (("mkdir /a", "write /a cgroup.procs 1"), 3, "write"),
+    (("mkdir /a", "write /a cgroup.procs 1", "write /a pids.max 1"), 3, "fork"),
+    (("mkdir /a", "fork 1 2", "write /a cgroup.procs 2"), 2, "exit"),
+    (("mkdir /a", "fork 1 2", "write /a cgroup.procs 2", "fork 2 3", "mkdir /a/b", "write /a pids.max 2"), 3, "exit"),
+]
+
+
+@FEW
+@given(st.data(), st.sampled_from(AT_A_LIMIT))
+def test_a_fork_is_tried_where_a_limit_refuses_it(data, row):
+    before, most, first = row
+    machine = Recorded()
+    machine.pids = most
+    with machine.h as h:
+        for line in before:
+            h.line(line)
+        machine.fork_at_a_limit(data=data)
+    assert machine.done[0][0].split(" ")[0] == first
+    line, why = machine.done[-1]
+    if " cgroup.procs " in line:
+        assert isinstance(why, NoProcess), "a group without a process, and a pid that has none"
+    else:
+        assert line.startswith("fork ") and [it[0] for it in machine.done[-2:]] == [line] * 2
+        assert all(isinstance(it, PidsMax) for _, it in machine.done[-2:])
 
 
 def test_a_new_group_is_blocked_exactly_by_the_limit_that_refuses_it():
