@@ -42,6 +42,11 @@ class Comments(unittest.TestCase):
         listing = "low:\nmiddle: low\nhigh staticlib: middle\n"
         self.assertEqual(list(faults_of_comments(TEXTS, listing)), [])
 
+    def test_a_crate_that_only_the_list_names(self):
+        texts = {**TEXTS, "crates/low/src/sum.rt": "// As low_more has it.\n"}
+        self.assertEqual(list(faults_of_comments(texts, CRATES)), ["crates/low/src/sum.rt:1: low_more is in no crate"])
+        self.assertEqual(list(faults_of_comments(texts, CRATES + "low_more: low\n")), [])
+
     def test_a_file_of_another_crate_than_it_says(self):
         path = "crates/high/src/lib.rt"
         said = "// In `high/src/sum.rt`, and in `specs/Su`.\n"
@@ -176,6 +181,13 @@ class Unproved(unittest.TestCase):
         wanted = [f"f.py:2: {name} is nowhere but in comments" for name in (*nowhere, "of_part")]
         self.assertEqual(sorted(found), sorted([*wanted, "e.py:1: of_comment is nowhere but in comments"]))
 
+    def test_comments_of_crates_are_looked_at_elsewhere(self):
+        texts = {
+            "crates/low_one/tool.py": "# As old_thing has it.\n",
+            "crates/low_one/src/a.c": "// In specs/Old.antt.\n",
+        }
+        self.assertEqual([*faults_of_unproved(texts)], [])
+
     def test_a_name_in_a_string_is_no_comment(self):
         self.assertEqual(self.faults("As old_name has it."), [])
 
@@ -239,6 +251,9 @@ class Gone(unittest.TestCase):
         for name in ("old_row", "count_rows", "lost_step", "Sum.add", "Refusals.counted", "Table.find_row"):
             with self.subTest(name):
                 self.assertEqual(self.faults_of(f"`find_row` and `{name}`"), [f"nothing defines {name}"])
+        names = ("a_lost_step", "lost_step", "old_row", "the_lost_step")
+        said = " ".join(f"`{name}`" for name in reversed(names))
+        self.assertEqual(self.faults_of(said), [f"nothing defines {name}" for name in names], "in their order")
 
 
 if __name__ == "__main__":

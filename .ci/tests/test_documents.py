@@ -84,6 +84,39 @@ class Lengths(unittest.TestCase):
         )
 
 
+class Phrases(unittest.TestCase):
+    def faults_of(self, text):
+        return [fault.split(": ", 2)[2] for fault in documents.faults_of_phrases("a.md", text)]
+
+    def test_each_phrase_is_named(self):
+        for said in (
+            *("want of memory", "for want of", "is told", "are told", "was told", "not to be had", "is to be had"),
+            *("are to be had", "it takes back", "wanted was", "wanted were", "a of an answer may be"),
+            *("one of a word may be", "in vain", "where it is so", "that is there already", "that are there already"),
+            *("taken at once", "beside other work", "the root alone", "how many they were", "is no path"),
+            *(
+                "is no command",
+                "is no number",
+                "is no file",
+                "is no hierarchy",
+                "is no pid",
+                "is no text",
+                "is no word",
+            ),
+            *("is no line", "where it is", "where there are", "gives back", "give back", "given back"),
+            *("takes it back", "take them back", "taken it back", "goes on", "go on"),
+            *("so many bytes", "so many seconds", "so many names", "so many operations", "so many commands"),
+        ):
+            for text in (f"As {said} here.", f"{said.upper()}."):
+                found = [it.lower() for it in self.faults_of(text)]
+                self.assertTrue([it for it in found if it in said], text)
+        self.assertEqual(self.faults_of("In vain,\nnot in vain.\n"), ["In vain", "in vain"])
+
+    def test_words_that_only_begin_or_end_so(self):
+        for said in ("forgives back", "begin vain", "cargo on", "is nothing", "is no paths", "soon told", "goes only"):
+            self.assertEqual(self.faults_of(f"It {said}."), [], said)
+
+
 class Pages(MadeUp):
     program = documents
 

@@ -49,12 +49,13 @@ const A = 1
 const B = 2
 """
 PLACES = {
+    ".ci/script.py": [9, 12, 14, 15],
     "a.c": [6, 8],
     "below/b.py": [9, 12, 14, 15],
     "below/script": [3, 4],
     "c.go": [6],
 }
-TEXTS = {"a.c": C, "below/b.py": PYTHON, "below/script": SHELL, "c.go": GO}
+TEXTS = {".ci/script.py": PYTHON, "a.c": C, "below/b.py": PYTHON, "below/script": SHELL, "c.go": GO}
 OTHERS = (
     *(
         "tests/a.c",

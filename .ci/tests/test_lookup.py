@@ -140,6 +140,8 @@ LINES = (
     ("place.text.copy(alloc);", None),
     ("make().copy(alloc);", "Text"),
     ("make::<u8>().copy(alloc);", "Text"),
+    ("low::more::make().copy(alloc);", "Text"),
+    ("let alias = more::make(); alias.copy(alloc);", "Text"),
     ("Node::new::<u8>(alloc).copy(alloc);", "Node"),
     ("unheard(1).copy(alloc);", None),
     ("Node::new(alloc).copy(alloc);", "Node"),
@@ -159,6 +161,8 @@ LINES = (
     ("let (alias, other) = make(); alias.copy(alloc);", None),
     ("for (alias, other) in pairs { alias.copy(alloc) }", None),
     ("for alias in texts.iter() { alias.copy(alloc) }", "Text"),
+    ("for alias in &mut texts { alias.copy(alloc) }", "Text"),
+    ("for alias in &rail.node.children { alias.copy(alloc) }", "Node"),
     ("for alias in number { alias.copy(alloc) }", None),
     ("let alias: Text<Global> = alias.made(); alias.copy(alloc);", "Text"),
     ("let mut alias = make(); alias.copy(alloc);", "Text"),
@@ -170,6 +174,11 @@ LINES = (
     ("pair.0.copy(alloc);", "Node"),
     ("pair.1.copy(alloc);", "Text"),
     ("pair.2.copy(alloc);", None),
+    ("maybe[0].copy(alloc);", None),
+    ("boxed[0].copy(alloc);", None),
+    ("let Some(alias) = list else { return 0 }; alias.copy(alloc);", None),
+    ("for alias in maybe { alias.copy(alloc) }", None),
+    ("maybe.next()?.copy(alloc);", None),
     ("let Some(alias) = maybe else { return 0 }; alias.copy(alloc);", "Text"),
     ("let alias = maybe.unwrap(); alias.copy(alloc);", "Text"),
     ("match maybe { Some(alias) if number > 1 => alias.copy(alloc), _ => 0 };", None),
@@ -244,6 +253,101 @@ class Receivers(unittest.TestCase):
             path = f"crates/{crate}/src/caller.rt"
             found = receivers.Rattle({**texts, path: caller}).calls(path, "copy", "Node")
             self.assertEqual(found, {2: answer}, crate)
+
+    def answers(self, takes, body, owner="Node", more=""):
+        """What is known of each call of `copy` in a function with these parameters and these lines."""
+        path = "crates/high/src/caller.rt"
+        lines = "".join(f"    {line}\n" for line in body.split("\n"))
+        texts = {**self.TEXTS, "crates/low/src/more.rt": MORE + more, path: f"fn call({takes}) -> u8 {{\n{lines}}}\n"}
+        return receivers.Rattle(texts).calls(path, "copy", owner)
+
+    def test_what_a_value_is_in(self):
+        """A wrapper has the methods of what is in it, a guard may have, and of a list they are those of an element."""
+        for of, line, answer in (
+            *((it, "it.copy(alloc);", True) for it in ("Box", "Arc", "Rc", "Pin", "Box<Arc<Rc", "Arc<Alias")),
+            *((it, "it.copy(alloc);", None) for it in ("Ref", "RefMut", "Cow", "Mutex", "RwLock", "NodeGuard")),
+            *((it, "it.copy(alloc);", False) for it in ("Vec", "Refused", "Cowslip", "Guards")),
+            *((it, "it[0].copy(alloc);", True) for it in ("Vec", "Iter", "VecDeque")),
+        ):
+            takes = f"it: &{of}<Node<Global>{'>' * (1 + of.count('<'))}"
+            self.assertEqual(self.answers(takes, line), {2: answer}, of)
+
+    def test_each_form_of_a_binding(self):
+        takes = "tried: Result<Text<Global>, Node<Global>>, maybe: Option<Node<Global>>, place: &Place<Global>"
+        for line in (
+            "let mut it: Node<Global> = unheard(); it.copy(alloc);",
+            "let Some(mut it) = maybe; it.copy(alloc);",
+            "let Err(mut it) = tried else { return 0 }; it.copy(alloc);",
+            "if let Place::Below(it) = place { it.copy(alloc); }",
+            "match place { low::Place::Below(it) if it.copy(alloc) > 0 => it.copy(alloc), _ => 0 };",
+            "match place { Place::Below(it) | Place::Named { node: it, text } => it.copy(alloc), _ => 0 };",
+            "match place { Place::Below(ref it) => it.copy(alloc), _ => 0 };",
+            "match place { Place::Named { node: ref mut it, .. } => it.copy(alloc), _ => 0 };",
+            "match place { Place::Named { node, .. } => node.copy(alloc), _ => 0 };",
+        ):
+            self.assertEqual(self.answers(takes, line), {2: True}, line)
+            self.assertEqual(self.answers(takes, line, "Text"), {2: False}, line)
+
+    def test_an_arm_is_that_of_the_match_around_it(self):
+        """One that ends above the arm, as deep as it, is another."""
+        takes = "maybe: Option<Node<Global>>, other: Option<Text<Global>>"
+        body = "match maybe {\n    None => match other {\n        Some(it) => it.copy(alloc),\n    },\n"
+        found = self.answers(takes, body + "    Some(it) => it.copy(alloc),\n}")
+        self.assertEqual(found, {4: False, 6: True})
+
+    def test_of_several_calls_in_a_line_the_surest_counts(self):
+        takes = "node: Node<Global>, text: Text<Global>"
+        for line, of_node in (
+            ("node.copy(unheard(1).copy(alloc));", True),
+            ("unheard(1).copy(node.copy(alloc));", True),
+            ("text.copy(unheard(1).copy(alloc));", None),
+            ("text.copy(node.copy(alloc));", True),
+            ("node.copy(text.copy(alloc));", True),
+        ):
+            self.assertEqual(self.answers(takes, line), {2: of_node}, line)
+
+    def test_a_binding_of_a_later_function(self):
+        """What it is bound to is looked for in its own function."""
+        first = "fn first(text: Text<Global>) {\n    let it = text;\n    it.copy(alloc);\n}\n\n"
+        for line, answer in (
+            ("let it = one.text; it.copy(alloc);", False),
+            ("let other = one; let it = other; it.copy(alloc);", True),
+            ("let text = one; text.copy(alloc);", True),
+            ("let it = text; it.copy(alloc);", None),
+        ):
+            path = "crates/high/src/caller.rt"
+            texts = {**self.TEXTS, path: f"{first}fn second(one: Node<Global>) {{\n    {line}\n}}\n"}
+            self.assertEqual(receivers.Rattle(texts).calls(path, "copy", "Node"), {3: False, 7: answer}, line)
+
+    def test_variants_of_the_own_type_and_methods_of_a_parameter(self):
+        own = "impl Place<Global> {\n    fn own(&self) {\n        match self {\n            Self::Below(it) => it.copy(alloc),\n        }\n"
+        own += "        Self::Below(made).copy(alloc);\n    }\n}\n"
+        path = "crates/low/src/more.rt"
+        found = receivers.Rattle({**self.TEXTS, path: own}).calls(path, "copy", "Node")
+        self.assertEqual(found, {4: True, 6: None})
+        more = "pub struct Unit;\n\npub trait Gives {\n    fn give(&self) -> Node<Global>;\n\n    fn own(&self) -> Self;\n}\n"
+        path = "crates/low/src/given.rt"
+        text = "fn f<G: Walk + Gives>(of: &G, unit: Unit) {\n    of.give().copy(alloc);\n    of.own().give().copy(alloc);\n    unit.copy(alloc);\n}\n"
+        found = receivers.Rattle({**self.TEXTS, "crates/low/src/gives.rt": more, path: text}).calls(
+            path, "copy", "Node"
+        )
+        self.assertEqual(found, {2: True, 3: True, 4: None})
+
+    def test_a_variant_is_a_value_of_its_enum(self):
+        """Also if `Self` or a path names the enum."""
+        path = "crates/low/src/more.rt"
+        for variant in ("Place::Below", "Self::Below", "tree::Place::Below"):
+            text = f"    fn copy(&self) {{\n        let it = {variant}(made);\n        it.copy(alloc);\n    }}\n"
+            rattle = receivers.Rattle({**self.TEXTS, path: f"impl Place<Global> {{\n{text}}}\n"})
+            for owner, answer in (("Place", True), ("Node", False)):
+                self.assertEqual(rattle.calls(path, "copy", owner), {4: answer}, (variant, owner))
+
+    def test_comments_and_attributes_in_types(self):
+        more = "pub struct Said {\n    // not: Text<A>, nor (\n    #[cold]\n    pub it: Node<Global>,\n}\n\n"
+        more += "pub enum Told {\n    // Not(Text<A>), nor (\n    #[cold]\n    It(Node<Global>),\n}\n"
+        self.assertEqual(self.answers("said: &Said", "said.it.copy(alloc);", more=more), {2: True})
+        line = "match told { Told::It(it) => it.copy(alloc) };"
+        self.assertEqual(self.answers("told: &Told", line, more=more), {2: True})
 
     def test_the_name_and_the_arguments_of_a_type(self):
         for text, name, arguments in (
@@ -368,8 +472,46 @@ class ObjectsOfOtherLanguages(unittest.TestCase):
             ("Round", "peak", None),
         ):
             self.assertEqual(of.definer(owner, name), wanted, owner)
+        each_other = objects.Objects({"d.py": "class One(Two):\n    pass\n\nclass Two(One):\n    pass\n"})
+        self.assertIsNone(each_other.definer("One", "peak"))
         self.assertEqual(of.calls("c.py", "peak", "Tree"), {3: True, 12: True, 13: True, 14: None})
         self.assertEqual(of.calls("c.py", "peak", "Other"), {3: False, 12: False, 13: False, 14: None})
+
+    def test_the_page(self):
+        """A method of the class itself, and one of a value that is made anew."""
+        text = "export class Rows {\n  show() {\n    this.show();\n  }\n\n  static async peak() {\n    this.peak();\n  }\n}\n\n"
+        text += "export function f(other) {\n  const rows = new Rows();\n  rows.show();\n  other.show();\n  new Rows().show();\n}\n"
+        of = objects.Objects({"a.mjs": text})
+        self.assertEqual(of.calls("a.mjs", "show", "Rows"), {3: True, 13: True, 14: None, 15: True})
+        self.assertEqual(of.calls("a.mjs", "show", "Plot"), {3: False, 13: False, 14: None, 15: False})
+        self.assertEqual(of.calls("a.mjs", "peak", "Rows"), {7: True})
+
+    def test_each_way_to_bind_a_name(self):
+        for line, answer in (
+            ("x = await a.Tree(1)", True),
+            ("with a.Tree(1) as x:", True),
+            ("with other() as y, opened() as x:", True),
+            ("async with opened() as x:", True),
+            ("x: a.Tree = made", True),
+            ("x: 'Tree' = made", True),
+            ("x = a.opened()", True),
+            ("x = made", None),
+            ("xx = Tree(1)", None),
+        ):
+            texts = {**self.TEXTS, "c.py": f"def f():\n    {line}\n    x.peak()\n"}
+            self.assertEqual(objects.Objects(texts).calls("c.py", "peak", "Tree"), {3: answer}, line)
+
+    def test_of_several_calls_in_a_line_the_surest_counts(self):
+        for line, of_tree in (
+            ("x.peak(Tree(1).peak())", True),
+            ("Tree(1).peak(x.peak())", True),
+            ("x.peak(Other(1).peak())", None),
+            ("Other(1).peak(x.peak())", None),
+            ("a.Tree.peak(x)", True),
+            ("a.Other.peak(x)", False),
+        ):
+            texts = {**self.TEXTS, "c.py": f"def f(x):\n    {line}\n"}
+            self.assertEqual(objects.Objects(texts).calls("c.py", "peak", "Tree"), {2: of_tree}, line)
 
     def test_go(self):
         of = objects.Objects(self.TEXTS)
@@ -402,6 +544,7 @@ class Definitions(unittest.TestCase):
             "func (t *T) IT()",
             "type IT struct {",
             "\tIT Code = C.MK_IT",
+            "\tIT     Code = C.MK_IT",
             "\tIT uint = iota",
             "var IT int",
         ),
@@ -446,6 +589,12 @@ class Definitions(unittest.TestCase):
             ("Comment", False),
         ):
             self.assertEqual(definitions.has_class(name, texts), is_there, name)
+
+    def test_the_class_whose_method_a_line_may_begin(self):
+        text = "class Tree:\n    def peak(self):\n        pass\n\n# a comment\n    more = 1\ndef f():\n    def peak():\n        pass\n"
+        text += "export class Row {\n  draw() {\n  }\n}\nfunc (t *Node) Peak() int {\n\treturn 1\n"
+        owners = [None, "Tree", "Tree", None, None, "Tree", None, None, None, None, "Row", "Row", None, "Node", None]
+        self.assertEqual(definitions.methods_of(text)[1:-1], owners)
 
     def test_a_line_that_mentions_it(self):
         for path in self.DEFINE:
@@ -518,6 +667,21 @@ class Parts(unittest.TestCase):
             ("evidence/linux-6.12/kernel/config", "", "recordings"),
             ("evidence/model.py", "", "tests"),
             ("bindings/go/fs_test.go", "", "tests"),
+            ("bindings/examples/loop.c", "", "tests"),
+            ("evidence/bench/plain/engine.rs", "", "tests"),
+            ("look/tests/page/demo.py", "", "tests"),
+            ("mount/test", "", "tests"),
+            ("look/test-check", "", "tests"),
+            ("mount/fuzz/run", "", "tests"),
+            (".ci/installed/run", "", "tests"),
+            (".ci/refused/refuse.c", "", "tests"),
+            (".ci/state/promised", "", "tests"),
+            (".ci/edits", "", "code"),
+            ("try", "", "code"),
+            ("crates/test_desk/src/lib.rt", "    ensures { A }", "tests"),
+            ("crates/a/data/one.cases", "", "tests"),
+            ("crates/a/stdin", "", "tests"),
+            ("docs/architecture.svg", "", "documents"),
             ("crates/line_tests/src/main.rt", "", "tests"),
             ("crates/word_tables/stdout", "", "code"),
             ("mount/src/main.c", "ensures", "code"),
@@ -526,7 +690,12 @@ class Parts(unittest.TestCase):
             ("crates/a/src/laws.rt", "fn f()", "laws"),
             ("crates/a/specs/Sum.antt", "", "specs"),
             ("crates/a/src/sum.rt", "    ensures same { result ≡ 1 }", "clauses"),
+            ("crates/a/src/sum.rt", "    requires few { true }", "clauses"),
+            ("crates/a/src/sum.rt", "        → count s ≡ 1 }", "clauses"),
+            ("crates/a/src/sum.rt", "ghost use Rattle.a.specs.Sum.{Adds};", "clauses"),
             ("crates/a/src/sum.rt", "    let x = 1;", "code"),
+            ("crates/a/src/sum.rt", "    let requires_few = 1;", "code"),
+            ("crates/a/crates.txt", "    ensures same { true }", "code"),
         ):
             self.assertEqual(code.part_of(path, line), part, (path, line))
 
@@ -553,6 +722,16 @@ class Screens(unittest.TestCase):
         many = {f"crates/a/{name}.py": [*range(10)] for name in "xyzuv"}
         line = " ".join(f"{name}.py:0,1,2,3+6" for name in "uvxyz")
         self.assertEqual(screen.fitting(many, 2, screen.of_numbers), [f"a/ {line}"])
+
+    def test_a_line_is_cut_to_the_width(self):
+        self.assertEqual(screen.cut("x" * 150), "x" * 150)
+        self.assertEqual(screen.cut("x" * 151), "x" * 147 + " ..")
+
+    def test_the_numbers_of_a_file_are_cut_to_lines_with_its_path(self):
+        path, numbers = "p" * 100, [*range(1000, 1020)]
+        found = screen.labelled(path, numbers, screen.all_numbers)
+        self.assertEqual("".join(found).replace(":", ",")[1:].split(","), [str(number) for number in numbers])
+        self.assertEqual([len(found), max(len(path + said) < screen.ROOM for said in found)], [4, True])
 
     def test_what_fits_fills_the_room(self):
         self.assertTrue(screen.fits(["x" * screen.ROOM] * 3, 3))

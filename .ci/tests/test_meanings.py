@@ -114,6 +114,9 @@ class Meanings(unittest.TestCase):
         "crates/low/src/two.rt": "ghost use Rattle.low.specs.Two.{told};\n\nfn second()\n    ensures { told }\n{}\n",
         "crates/low/src/none.rt": "fn third() {\n    told();\n    // as told\n    x.told = Two.told;\n}\n",
         "crates/low/src/rows.rt": "fn fourth() {\n    x.most;\n}\n",
+        "crates/low/src/calls.rt": "ghost use Rattle.low.specs.One.{told};\n\nfn fifth() {\n    f().told = 1;\n    x::told();\n    x.told;\n"
+        "    One::told();\n    // as told\n}\n",
+        "crates/low/proofs/None.antt": "-- as told\nx = told\n",
         "crates/low/proofs/Ones.antt": "use Rattle.low.specs.One as one\nuse Rattle.low.specs.Two as two\nx = one.told\ny = two.told\n",
         "crates/low/proofs/Named.antt": "use Rattle.low.specs.One.{told as other}\nuse Rattle.low.specs.Two.{told}\nx = told\n",
         "crates/low/proofs/Whole.antt": "use Rattle.low.specs.One\nx = One.told\ny = Two.told\n",
@@ -121,7 +124,7 @@ class Meanings(unittest.TestCase):
         "crates/low/must-fail-more.edits": "\n== b\n# breaks: Two.told\nfile: src/two.rt\nold: told\nnew: tell\n\n"
         "== c\n# breaks: One.told\nfile: src/one.rt\nold: told\nnew: tells\n",
         "crates/low_tests/data/a.cases": "# shows: One.told\ntold 1\n",
-        "docs/reference/low.md": "| `told` | one |\n",
+        "docs/reference/low.md": "| `told` | one |\n| `Tree::told` | a function |\n",
         "docs/A.md": "`One.told`, `Two.told`\n`Two.told`\nAs told.\n",
         "python/a.py": "def told():\n    return told()\n",
         "python/b.py": "a.told()\n",
@@ -136,7 +139,8 @@ class Meanings(unittest.TestCase):
         self.assertEqual(
             self.hits("One.told"),
             {
-                "clauses": {"crates/low/src/one.rt": [1, 4]},
+                "code": {"crates/low/src/calls.rt": [8]},
+                "clauses": {"crates/low/src/one.rt": [1, 4], "crates/low/src/calls.rt": [1]},
                 "specs": {"crates/low/specs/One.antt": [1, 2]},
                 "proofs": {
                     "crates/low/proofs/Ones.antt": [3],
@@ -148,6 +152,7 @@ class Meanings(unittest.TestCase):
                 "documents": {"docs/A.md": [1], "docs/reference/low.md": [1]},
                 "perhaps": {
                     "crates/low/src/none.rt": [3],
+                    "crates/low/proofs/None.antt": [1],
                     "crates/low_tests/data/a.cases": [2],
                     "docs/A.md": [3],
                     "python/b.py": [1],

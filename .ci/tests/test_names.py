@@ -64,9 +64,40 @@ class Constants(unittest.TestCase):
         ):
             self.assertEqual([it[1:] for it in numbers.owners(value, {"a.go": text})], said)
 
+    def test_each_constant_of_a_line_of_python_has_its_own_value(self):
+        text = "WIDTH, LABEL, NUMBERS_SHOWN, FEW = 150, 12, 4, 40\n"
+        for value, said in ((150, "WIDTH = 150"), (12, "LABEL = 12"), (4, "NUMBERS_SHOWN = 4"), (40, "FEW = 40")):
+            self.assertEqual(self.owners(value, a=text), [("a", said)])
+
     def test_what_is_not_known_is_no_number(self):
         self.assertEqual(self.owners(0, a="A = OTHER + 1\n"), [])
         self.assertEqual(self.owners(1024, a="A, B = call(X, 1024, Y), 3\n"), [])
+
+    def test_what_can_be_calculated(self):
+        text = "A = 1025 - 1\nB = 0 | 1024\nC = 0 + (512 << 1)\nD = 2**10\nE = names.A\nF = 1024.0\nG = '1024'\nH = 1024 +\n"
+        calculated = [("a", f"{it}") for it in ("A = 1025 - 1", "B = 0 | 1024", "C = 0 + (512 << 1)", "E = names.A")]
+        self.assertEqual(self.owners(1024, a=text), calculated)
+        self.assertEqual(self.owners(1 << 127, b="A = 1 << 127\n"), [("b", "A = 1 << 127")])
+        self.assertEqual(self.owners(1 << 128, b="A = 1 << 128\n"), [])
+        self.assertEqual(self.owners(0, b="A = 1 << -1\nB = C + 0\n"), [])
+        text = "#define A 1024UL\n#define B 0x400u\n#define C 1024x\n#define D (uint32_t) 1024\n"
+        found = [said for _, _, said in numbers.owners(1024, {"a.h": text})]
+        self.assertEqual(found, ["A = 1024UL", "B = 0x400u"])
+
+    def test_where_a_constant_is_one(self):
+        """Each enumerator of a long list has its line; a proof, a text and a comment of another script have no constant."""
+        lines = "".join(f"\t{name},\n" for name in "ABCDEFGH")
+        found = [*numbers.owners(1024, {"a.c": f"enum {{\n{lines}\tLAST = 1024,\n}};\n"})]
+        self.assertEqual(found, [("a.c", 10, "LAST = 1024")])
+        self.assertEqual([*numbers.owners(7, {"a.c": f"enum {{\n{lines}}};\n"})], [("a.c", 9, "H = 7")])
+        texts = {
+            "crates/x/proofs/A.antt": "SLOTS = 1024\n",
+            "LICENSE": "ROOM=1024\n",
+            "a.sh": "readonly A=1024\ndeclare -r B=1024\n  local C=1024\nexport D=1024\nE=10240\n",
+            "script": "#!/bin/sh\nROOM=1024 # python\n",
+        }
+        found = [*(("a.sh", at, f"{name} = 1024") for at, name in enumerate("ABC", 1)), ("script", 2, "ROOM = 1024")]
+        self.assertEqual([*numbers.owners(1024, texts)], found)
 
     def test_the_first_enumerator_is_zero(self):
         self.assertEqual([*numbers.owners(0, self.TEXTS)], [("a.h", 2, "FIRST = 0")])
@@ -133,6 +164,7 @@ class Table(unittest.TestCase):
     def test_a_name_with_a_point_before_it_is_in_longer_ones(self):
         self.assertEqual(names.longer_words([".tool"], 'see "/.tool.x.1", .tool and a.tool.'), {".tool.x.1", "a.tool"})
         self.assertEqual(names.longer_words(["tool"], '"/.tools.", ..tool.'), {"tools"})
+        self.assertEqual(names.longer_words(["pids.max"], "see .pids.max_2."), {"pids.max_2"})
 
     def test_a_number_in_a_checksum_is_in_no_longer_word(self):
         self.assertEqual(names.longer_words(["64"], "a64 " + "0f64" * 5), {"a64"})
@@ -231,6 +263,9 @@ class Bounds(unittest.TestCase):
         self.assertEqual(
             fitting(hits, 1, of_numbers), ["a0/b0/ 20 files; a0/b2/ 20 files; a1/b1/ 20 files; a1/b3/ 20 files"]
         )
+        hits = {f"a/b/c{at % 2}/d{at % 4}/e{at}/{name * 20}": [1] for at in range(40) for name in "xy"}
+        deepest = "; ".join(f"a/b/c{at % 2}/d{at}/ 20 files" for at in (0, 2, 1, 3))
+        self.assertEqual(fitting(hits, 1, of_numbers), [deepest])
 
 
 if __name__ == "__main__":

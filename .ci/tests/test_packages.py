@@ -81,6 +81,8 @@ class Packages(unittest.TestCase):
             shutil.copytree(f"{TOP}/{folder}", f"{self.top}/{folder}")
             for name in os.listdir(f"{self.top}/{folder}"):
                 os.chmod(f"{self.top}/{folder}/{name}", 0o700)
+            for name in (".hidden.py", "below/more.py", "folder.py/more.py"):  # what is none of its sources
+                self.write(f"{folder}/{name}", "")
         self.assertEqual(self.run_it("bindings/package", f"{self.top}/to"), (0, "", ""))
         wanted = {}
         for source, place in (("bindings/python/makhloeum", ""), ("look/page", "page/"), ("look/check", "check/")):
@@ -90,6 +92,8 @@ class Packages(unittest.TestCase):
             wanted[f"check/worked/{name}"] = f"evidence/linux-6.12/{name}"
         self.assertGreater(len(wanted), 40)
         at = f"{self.top}/to/makhloeum"
+        found = {os.path.relpath(f"{folder}/{name}", at) for folder, _, names in os.walk(at) for name in names}
+        self.assertEqual(found, set(wanted))
         for name, source in wanted.items():
             with open(f"{at}/{name}", "rb") as packed, open(f"{TOP}/{source}", "rb") as own:
                 self.assertEqual(packed.read(), own.read(), name)
@@ -98,21 +102,28 @@ class Packages(unittest.TestCase):
                 mode = stat.S_IMODE(os.stat(os.path.join(folder, name)).st_mode)
                 self.assertEqual(mode, 0o755 if name in below else 0o644, name)
 
-    def library(self, **environment):
-        """The library that setup.py takes, with made-up setuptools: its path here, or why there is none."""
+    def set_up(self, look, version="1.2.3", kinds=(object, object), **environment):
+        """What is found in the names and the words of setup.py, with made-up setuptools and a library of that version; or its message."""
         self.copy("bindings/python/setup.py", "bindings/python/makhloeum/_library.py")
         made_up = {name: types.ModuleType(name) for name in ("setuptools", "setuptools.command", "wheel", "ctypes")}
-        made_up["setuptools"].setup = lambda **_: None
+        given = {}
+        made_up["setuptools"].setup = lambda **words: given.update(words)
         made_up["ctypes"].CDLL, made_up["ctypes"].c_char_p = mock.MagicMock(), None
-        for name, kind in (("setuptools.command.build_py", "build_py"), ("wheel.bdist_wheel", "bdist_wheel")):
+        made_up["ctypes"].CDLL.return_value.mk_version.return_value = version.encode()
+        for name, kind in zip(("setuptools.command.build_py", "wheel.bdist_wheel"), kinds):
             made_up[name] = types.ModuleType(name)
-            setattr(made_up[name], kind, object)
+            setattr(made_up[name], name.rpartition(".")[2], kind)
         with mock.patch.dict(sys.modules, made_up), mock.patch.dict(os.environ, environment):
             try:
-                setup = runpy.run_path(f"{self.top}/bindings/python/setup.py")
+                return look(runpy.run_path(f"{self.top}/bindings/python/setup.py"), given)
             except SystemExit as no:
                 return str(no).replace(self.top, "")
-            return str(setup["library"]()).replace(os.path.realpath(self.top), "")
+
+    def library(self, **environment):
+        """The library that setup.py takes: its path here, or why there is none."""
+        return self.set_up(
+            lambda names, _: str(names["library"]()).replace(os.path.realpath(self.top), ""), **environment
+        )
 
     def test_which_library_a_wheel_has(self):
         name = "libmakhloeum.so.1"
@@ -127,6 +138,54 @@ class Packages(unittest.TestCase):
         self.assertEqual(self.library(**given), "/given.so")
         self.write(f"bindings/python/makhloeum/{name}", "")
         self.assertEqual(self.library(**given), f"/bindings/python/makhloeum/{name}")
+
+    def test_the_version_of_a_wheel_says_how_its_library_was_made(self):
+        self.write("bindings/out/libmakhloeum.so.1", "")
+        for version, wanted in (("1.2.3", "1.2.3"), ("1.2.3 without proofs", "1.2.3+without.proofs")):
+            self.assertEqual(self.set_up(lambda _, words: words["version"], version, MAKHLOEUM_LIBRARY=""), wanted)
+
+    def test_what_setup_adds_to_the_modules(self):
+        """The library and the recordings, unless the modules stay where they are; and a tag for each Python 3 on one platform."""
+        done = []
+
+        class BuildPy:
+            build_lib = f"{self.top}/made"
+
+            def run(self):
+                done.append("run")
+
+        class BdistWheel:
+            def finalize_options(self):
+                self.root_is_pure = True
+
+            def get_tag(self):
+                return "cp311", "cp311", "linux_x86_64_linux_"
+
+        def look(_, words):
+            kinds = words["cmdclass"]
+            build, wheel = kinds["build_py"](), kinds["bdist_wheel"]()
+            build.editable_mode = is_editable
+            build.run()
+            wheel.finalize_options()
+            return words["package_dir"], wheel.root_is_pure, wheel.get_tag()
+
+        self.write("bindings/out/libmakhloeum.so.1", "a library")
+        self.write("evidence/linux-6.12/text.recorded", "a text")
+        self.write("evidence/linux-6.12/other.recorded", "another")
+        for is_editable, wanted in ((True, []), (False, ["check/worked/text.recorded", "libmakhloeum.so.1"])):
+            os.makedirs(f"{self.top}/made/makhloeum", exist_ok=True)
+            folders, is_pure, tag = self.set_up(look, kinds=(BuildPy, BdistWheel), MAKHLOEUM_LIBRARY="")
+            self.assertEqual(folders, {f"makhloeum.{name}": f"../../look/{name}" for name in ("page", "check")})
+            self.assertEqual((is_pure, tag), (False, ("py3", "none", "manylinux_2_36_x86_64_linux_")))
+            at = f"{self.top}/made/makhloeum"
+            made = [os.path.relpath(f"{folder}/{name}", at) for folder, _, names in os.walk(at) for name in names]
+            self.assertEqual(sorted(made), wanted)
+        self.assertEqual(done, ["run"] * 2)
+        self.assertEqual(self.read("made/makhloeum/check/worked/text.recorded"), "a text")
+        self.assertEqual(self.read("made/makhloeum/libmakhloeum.so.1"), "a library")
+        self.write("bindings/python/makhloeum/page/__init__.py", "")
+        folders, _, _ = self.set_up(look, kinds=(BuildPy, BdistWheel), MAKHLOEUM_LIBRARY="")
+        self.assertEqual(folders, {"makhloeum.check": "../../look/check"}, "beside the modules, as in a source archive")
 
     def test_the_version_is_that_of_the_header(self):
         self.copy("bindings/version")

@@ -50,6 +50,12 @@ type Text struct {
 \tlength int
 }
 
+type Source interface {
+\t// Read returns it.
+\tRead(path string) (string, error)
+\tclose()
+}
+
 const (
 \t// One is one.
 \tOne Code = 1
@@ -142,6 +148,8 @@ class Promised(MadeUp):
                 "makhloeum: const: One Code = 1",
                 "makhloeum: func (h *Hierarchy) Mkdir(path string) error",
                 "makhloeum: func Version() string",
+                "makhloeum: type Source interface",
+                "makhloeum: type Source: Read(path string) (string, error)",
                 "makhloeum: type Text struct",
                 "makhloeum: type Text: Path string",
                 "makhloeum: var ErrClosed",

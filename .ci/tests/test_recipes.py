@@ -65,6 +65,10 @@ class Recipes(MadeUp):
         self.assertEqual(first, ("First", ["some", "more"], head + shown))
         self.assertEqual(second, ("Second", ["some"], [*head, ("true", None)]))
 
+    def test_a_here_document_keeps_its_indented_and_blank_lines(self):
+        text = "    cat > file << END\n    a:\n      - b\n    \n    c: d\n    END\n"
+        self.assertEqual(recipes.block(text), [("cat > file << END\na:\n  - b\n\nc: d\nEND", None)])
+
     def test_all_recipes_pass(self):
         self.assertIn("2 passed, 0 failed", self.said())
 
@@ -193,6 +197,12 @@ class Packages(MadeUp):
         self.assertEqual(recipes.lacks(["here"]), "it needs Debian's packages")
         self.patch("os", mock.Mock(geteuid=lambda: 1000))
         self.assertEqual(recipes.lacks(["here"]), "it needs root")
+
+    def test_root_is_known_by_its_user_and_not_by_its_group(self):
+        for user, group, said in ((1000, 0, "it needs root"), (0, 1000, "")):
+            recipes.os.geteuid = mock.Mock(return_value=user)
+            recipes.os.getegid = mock.Mock(return_value=group)
+            self.assertEqual(recipes.lacks(["here"]), said, (user, group))
 
 
 class Left(MadeUp):

@@ -112,6 +112,13 @@ class Unproved(MadeUp):
         lines = self.tried(status=1)[1]
         self.assertEqual((lines[-1], "another" in lines), ("0 passed, 1 failed", True))
 
+    def test_a_program_with_tests_has_its_stored_run_too(self):
+        self.write("crates/program/src/more.rt", TEST)
+        self.write("crates/program/says", "another\n")
+        calls, lines = self.tried(status=1)
+        self.assertEqual(calls, ["program try --seconds 1800", "program try --test --seconds 1800"])
+        self.assertEqual((lines[-1], "another" in lines), ("0 passed, 1 failed", True))
+
     def test_a_change_of_a_stored_run_is_tried(self):
         self.write("crates/beside/src/lib.rt", "// no test any more\n")
         self.git("add", "-A")

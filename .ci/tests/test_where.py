@@ -351,6 +351,18 @@ class OfAMadeUpRepository(unittest.TestCase):
         clauses = ["cites Adds of low/specs/Sum.antt", "ensures { Adds }", "requires { IsFew }"]
         self.assertEqual(sorted(search.contract), clauses, "each clause once")
 
+    def test_proofs_of_a_function_without_a_type(self):
+        texts = {"crates/low/src/sum.rt": "fn total() {\n}\n", "crates/low/proofs/sum/total/Answers.antt": "proof\n"}
+        texts |= {
+            "crates/low/proofs/sum/subtotal/Answers.antt": "proof\n",
+            "crates/high/proofs/sum/total/A.antt": "x\n",
+        }
+        self.assertIn("proofs      low/proofs/sum/total/Answers.antt:1", where.Search("total", texts).screen())
+
+    def test_what_only_the_title_says(self):
+        said = ["no such process", "  here this is called: ESRCH"]
+        self.assertEqual(where.Search("no such process", {"a.py": "b\n"}).screen(), said)
+
     def test_a_method_of_python_or_go(self):
         self.assertEqual(
             self.screen("Tree.peak"),
@@ -363,6 +375,10 @@ class OfAMadeUpRepository(unittest.TestCase):
                 "documents   README.md:1",
             ],
         )
+
+    def test_a_call_in_another_language_is_not_that_of_a_method(self):
+        found = where.Search("Tree.peak", {**self.TEXTS, "web/other.mjs": "h.peak();\n"}).hits
+        self.assertEqual(found["perhaps"], {"python/tests/test_tree.py": {1}})
 
     def test_a_method_that_a_class_inherits(self):
         wanted = ["defined     python/oak.py:2 def cut(self):", "code        python/oak.py:2,5"]
@@ -398,6 +414,8 @@ class OfAMadeUpRepository(unittest.TestCase):
     def test_the_name_of_a_file_or_a_folder(self):
         self.assertEqual(self.screen("sums"), ["sums", "files       low_tests/data/sums.cases"])
         self.assertEqual(self.screen("low_tests"), ["low_tests", "files       low_tests/ 2 files"])
+        whole = where.Search("sums", self.TEXTS).screen(is_whole=True)
+        self.assertEqual(whole, self.screen("sums"))
 
     def test_an_edit_by_its_name(self):
         found = ["defined     low/must-fail-more.edits:9 == two", "edits       low/two (Adds.IsFew)"]
@@ -405,7 +423,8 @@ class OfAMadeUpRepository(unittest.TestCase):
             self.assertEqual(self.screen(name), [name, *found])
         whole = where.Search("low/two.edit", self.TEXTS).screen(is_whole=True)
         self.assertEqual(whole[2:], ["edits       low/must-fail-more.edits:9"])
-        self.assertEqual(self.screen("high/two"), [])
+        for name in ("high/two", "low/sums", "low/absent"):
+            self.assertEqual(self.screen(name), [], name)
 
     def test_a_mutant_by_its_name_and_by_its_text(self):
         at = "mount/a_birth_is_late (run/births.c.mutants"
@@ -467,6 +486,7 @@ class OfAMadeUpRepository(unittest.TestCase):
         texts = {"a.c": "syscall(SYS_openat2);\nx = __NR_openat2;\nSYS_openat29\n", "a.py": "openat2()\nSYS_open\n"}
         said = ["openat2 = SYS_openat2 = __NR_openat2", "code        ./ a.c:1,2 a.py:1", "longer      SYS_openat29 (1)"]
         self.assertEqual(where.Search("openat2", texts).screen(), said)
+        self.assertEqual([*where.Search("openat2", texts).with_texts()][:2], [said[0], "code"])
         self.assertEqual(where.Search("open", texts).names, ["open", "SYS_open"])
 
     def test_several_words_are_one_name(self):
@@ -600,6 +620,26 @@ class WithoutGit(unittest.TestCase):
             self.assertEqual(where.repository(), {path: f"text of {path}" for path in ("a", "b/c.py")})
 
 
+class WithGit(unittest.TestCase):
+    def test_what_is_committed_or_will_be_is_read(self):
+        """Of a picture, and of the table of newcomers' words, only the name; of a link nothing."""
+        texts = {".gitignore": "built\n", "a": "a\n", "b/c.py": "c\n", "gone": "d\n", "built": "e\n"}
+        texts |= {"f.png": "g\n", ".ci/lookup/words.py": "h\n"}
+        with tempfile.TemporaryDirectory() as top, mock.patch.object(where, "ROOT", top):
+            for path, text in texts.items():
+                os.makedirs(os.path.dirname(f"{top}/{path}"), exist_ok=True)
+                with open(f"{top}/{path}", "w", encoding="utf-8") as it:
+                    it.write(text)
+            os.symlink("a", f"{top}/link")
+            for command in (["init", "-q"], ["add", "a", "gone", "link"]):
+                subprocess.run(["git", "-C", top, *command], check=True)
+            os.remove(f"{top}/gone")
+            wanted = {**texts, "f.png": "", ".ci/lookup/words.py": ""}
+            self.assertEqual(
+                where.repository(), {path: wanted[path] for path in sorted(wanted) if path not in ("gone", "built")}
+            )
+
+
 class OfFewAndOfMany(unittest.TestCase):
     @staticmethod
     def search_of(files, lines):
@@ -648,6 +688,28 @@ class OfFewAndOfMany(unittest.TestCase):
         text = "file: mount/src/a.c\n" + "".join(f"\n== a_mutant_of_that_source_{at}\n{block}" for at in range(400))
         said = "\n".join(where.Search("seldom", {"mount/mutants/a.c.mutants": text}).screen())
         self.assertIn("mutants     mount/mutants/a.c.mutants 400 mutants", said)
+
+    def test_many_mutants_of_many_files_are_named_or_counted_by_folder(self):
+        block = "file: {}\n\n== {}\nold: seldom();\nnew: often();\ntest: t\n"
+        names = [*"abcdefghijklmnopqrstuvwxyz0123456789", "aa", "ab", "ac", "ad"]
+        texts = {f"look/mutants/of/a_source_{at}.py.mutants": block.format("x", at) for at in names}
+        said = "\n".join(line for line in where.Search("seldom", texts).screen()[1:])
+        self.assertEqual(re.findall(r"look/(\w+)", said), sorted(names, key=lambda it: f"{it}.py"))
+        self.assertNotIn("mutants:", said, "there is no room for their places")
+        folders = ("look", "mount")
+        texts = {f"{of}/mutants/a_{at}.c.mutants": block.format("x", at) for of in folders for at in range(100, 300)}
+        said = where.Search("seldom", texts).screen()
+        self.assertEqual(said[1:], ["mutants     look/mutants/ 200 mutants; mount/mutants/ 200 mutants"])
+
+    def test_many_longer_words_are_counted_and_the_option_lists_all(self):
+        texts = {"a.py": "seldom\n" + "".join(f"seldom_{at}\n" for at in range(400))}
+        said = where.Search("seldom", texts).screen()
+        self.assertTrue(said[-1].startswith("longer      seldom_0 (1); ") and said[-1].endswith(" .. 400 words"), said)
+        whole = "\n".join(where.Search("seldom", texts).screen(is_whole=True))
+        self.assertEqual(len(set(re.findall(r"seldom_\d+ \(1\)", whole))), 400)
+        few = {"a.py": "seldom\n" + "".join(f"seldom_{at}\n" for at in range(39))}
+        said = "\n".join(where.Search("seldom", few).screen())
+        self.assertEqual(len(set(re.findall(r"seldom_\d+ \(1\)", said))), 39)
 
     def test_many_edits_of_many_crates_are_counted(self):
         block = "\n== {}\nfile: src/a.rt\nold: seldom\nnew: often\n"
