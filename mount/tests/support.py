@@ -298,6 +298,19 @@ def is_alive(pid):
         return False
 
 
+def beginnings(pids):
+    """When each began that lives, by its number: a busy machine soon gives the number to another one."""
+    found = {}
+    for pid in pids:
+        try:
+            fields = open("/proc/%d/stat" % pid).read().rpartition(")")[2].split()
+        except OSError:
+            continue
+        if fields[0] not in "ZX":
+            found[pid] = fields[19]
+    return found
+
+
 def spared(*pids):
     """Which of these processes still live, once a signal would have ended them."""
     until(lambda: not all(map(is_alive, pids)), 0.5)

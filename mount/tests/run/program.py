@@ -17,7 +17,7 @@ import time
 
 sys.path.insert(0, os.path.dirname(os.path.dirname(os.path.realpath(__file__))))
 from support import AT, CGREPLAY, PATIENCE, PROGRAM, Mount
-from support import error_of, finish, is_alive, libc, read, same, server_and_helper, status_within, step, until
+from support import beginnings, error_of, finish, libc, read, same, server_and_helper, status_within, step, until
 from support import write
 
 ME = os.path.realpath(__file__)
@@ -174,10 +174,10 @@ def kills():
                 os._exit(0)
             time.sleep(0.001)
     until(lambda: int(read(AT + "/a/pids.current")) > 5)
-    pids = read(AT + "/a/b/cgroup.procs").split()
+    lived = beginnings(map(int, read(AT + "/a/b/cgroup.procs").split()))
     write(AT + "/a/cgroup.kill", b"1\n")
     same("a kill ends the parent", os.waitpid(child, 0)[1], signal.SIGKILL)
-    step("and its %d children" % (len(pids) - 1), until(lambda: not any(is_alive(int(p)) for p in pids)))
+    step("and its %d children" % (len(lived) - 1), until(lambda: not beginnings(lived).items() & lived.items()))
     same(
         "nobody is left",
         (read(AT + "/a/pids.current"), read(AT + "/a/cgroup.events")),
