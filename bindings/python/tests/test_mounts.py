@@ -246,6 +246,33 @@ def test_a_patch_that_comes_again_is_below():
         assert "cgroup.procs" in os.listdir(AT) and os.listdir("/") == ["patched"]
 
 
+def test_a_patch_that_comes_again_is_called_by_each_thread():
+    """Also while another thread is within it."""
+    inside, ends, called = threading.Event(), threading.Event(), []
+
+    def patched(path):
+        called.append(path)
+        if path == "/first":
+            inside.set()
+            ends.wait(60)
+        return ["patched"]
+
+    block = mounted_at(AT)
+    block.__enter__()
+    with unittest.mock.patch("os.listdir", lambda path: []):
+        block.__exit__(None, None, None)
+        with unittest.mock.patch("os.listdir", patched), mounted_at(AT):
+            first = threading.Thread(target=os.listdir, args=("/first",))
+            first.start()
+            assert inside.wait(60)
+            told = os.listdir("/second")
+            ends.set()
+            first.join()
+    assert told == ["patched"] and called == ["/first", "/second"]
+    with mounted_at(AT):
+        pass
+
+
 @pytest.mark.parametrize("wraps", [True, False])
 def test_patches_over_os_stat_in_two_blocks(tmp_path, wraps):
     """The first one is over ours when its block ends, so ours stays below; the second is over the first, or calls nobody."""
