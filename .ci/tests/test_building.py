@@ -6,6 +6,7 @@ import shutil
 import stat
 import subprocess
 import tempfile
+import time
 import unittest
 
 TOP = os.path.dirname(os.path.dirname(os.path.dirname(os.path.realpath(__file__))))
@@ -452,8 +453,9 @@ class OfMount(MadeUp):
         os.unlink(f"{self.top}/{SOURCES[1]}")
         for name, text in MADE.items():
             self.write(f"made/{name}", LOGS + text, 0o755)
+        began = time.monotonic()
         (status, said, errors), calls = self.called("mount/cost", TURNS="1")
-        lines = said.splitlines()
+        passed, lines = 1000 * (time.monotonic() - began), said.splitlines()
         self.assertEqual((status, errors, lines[1:-5]), (0, "", COSTS))
         for line in (lines[0], lines[-1]):
             self.assertRegex(line, r"^the machine's load: [\d.]+ [\d.]+ [\d.]+, on \d+ processors$")
@@ -463,6 +465,8 @@ class OfMount(MadeUp):
             alone, run, uncounted = (int(found[i]) for i in (2, 3, 5))
             self.assertEqual((found[1], alone >= 5, run >= 10, uncounted >= 20), (name, True, True, True), line)
             self.assertAlmostEqual(float(found[4]), run / alone, delta=0.006, msg=line)
+            passed -= alone + run + uncounted
+        self.assertGreaterEqual(passed, 0, said)
         beginning = lambda *names: [line for line in calls if line.startswith(names)]
         of_mount, with_trace = "makhloeum mount WORK/at", "makhloeum mount WORK/at --trace WORK/trace"
         mounts = ["null_filesystem WORK/at", of_mount, with_trace, of_mount, with_trace]

@@ -1,6 +1,7 @@
 """Tests of .ci/style in a made-up repository, with scripts in place of the tools; and that the Python programs of .ci end with a status."""
 import ast
 import os
+import re
 import shutil
 import subprocess
 import sys
@@ -131,6 +132,21 @@ class Programs(unittest.TestCase):
                 self.assertEqual(ended.exception.code, status, name)
         self.assertIn(f"{TOP}/.ci/documents", tried)
         self.assertGreaterEqual(len(tried), 8)
+
+
+class Texts(unittest.TestCase):
+    def test_a_text_of_several_literals_of_c_has_blanks_between_words(self):
+        joined, tried = re.compile(r'[^\s\\"](?<!\\n)"\s*\n\s*"\w'), 0
+        self.assertEqual(
+            [bool(joined.search(it)) for it in ('"a"\n\t"b"', '"a "\n"b"', '"a\\n"\n"b"')], [True, False, False]
+        )
+        for folder, _, files in (*os.walk(f"{TOP}/mount/src"), *os.walk(f"{TOP}/bindings/c")):
+            for name in [os.path.join(folder, it) for it in files if it.endswith((".c", ".h"))]:
+                with open(name, encoding="utf-8") as it:
+                    text = it.read()
+                tried += text.count('"\n')
+                self.assertIsNone(joined.search(text), name)
+        self.assertGreater(tried, 50)
 
 
 if __name__ == "__main__":

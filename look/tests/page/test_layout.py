@@ -125,6 +125,13 @@ def test_the_column_of_names_is_resized(sized):
 # ---- heads and lists
 
 
+def test_the_button_of_the_groups_is_at_the_right_end(sized):
+    b = sized("demo", demo(), WIDTHS[-1])
+    ends = "return ['h2', '#before', null].map((one) => (one ? document.querySelector('#groups ' + one) : document.getElementById('groups'))"
+    title, button, groups = b.run(ends + ".getBoundingClientRect().right)")
+    assert title + 100 < button and groups - 20 < button < groups
+
+
 def test_heads_are_above_their_columns(pages):
     """With scrollbars that take room."""
     script = """const [head, row] = ["#columns .head", "#tree .row:nth-child(4)"].map((one) => [...document.querySelector(one).children]);

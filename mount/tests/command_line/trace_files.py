@@ -115,6 +115,13 @@ def times():
     m.end()
 
 
+def full_trace_of_a_run():
+    """Its first process has no line, so the server does not take it."""
+    ran = subprocess.run([PROGRAM, "run", "--trace", "/dev/full", "true"], stderr=subprocess.PIPE, timeout=PATIENCE)
+    why = b"makhloeum: this machine does not allow a process to be traced: Resource temporarily unavailable\n"
+    same("a run whose first line cannot be kept", (ran.returncode, ran.stderr), (2, why))
+
+
 def full_answers():
     m = Mount(answers="/dev/full")
     same("a mkdir whose answer cannot be kept", error_of(os.mkdir, m.path("a")), "ENOSPC")
@@ -478,6 +485,7 @@ for test in (
     targets,
     modes,
     times,
+    full_trace_of_a_run,
     full_answers,
     limited,
     without_history,
