@@ -15,9 +15,9 @@
 #include <sys/resource.h>
 #include <unistd.h>
 
-/* UNOPENED: a table that was given and not opened is dropped when so many others were given after it. SHARE: the part of its
-   descriptors that the server has for tables. */
-enum { LONG = 4096, UNOPENED = 1024, SHARE = 4 };
+/* LONG: bytes of a path, of which a table escapes some by four. UNOPENED: a table that was given and not opened is dropped when so
+   many others were given after it. SHARE: the part of its descriptors that the server has for tables. */
+enum { LONG = 4096, ESCAPED = 4 * LONG, UNOPENED = 1024, SHARE = 4 };
 
 /* ---------------------------------------------------------------- which there are */
 
@@ -133,8 +133,7 @@ void mount_tables_close(long number)
 
 /* ---------------------------------------------------------------- the texts */
 
-/* A word of a line, counted from 0. */
-/* False if there is no such word, or if it is too long. */
+/* A word of a line, counted from 0. It is cut where it is too long. False: there is no such word. */
 static bool take_word(const char *line, int which, char *out, size_t size)
 {
 	line += strspn(line, " ");
@@ -143,24 +142,33 @@ static bool take_word(const char *line, int which, char *out, size_t size)
 		line += strspn(line, " ");
 	}
 	size_t n = strcspn(line, " ");
-	if (n == 0 || n >= size)
-		return false;
-	memcpy(out, line, n);
-	out[n] = 0;
-	return true;
+	snprintf(out, size, "%.*s", (int)n, line);
+	return n > 0;
+}
+
+/* A path as a table has it. Of the bytes that a name of a group may have, the kernel escapes one. */
+static void escape(const char *path, char out[ESCAPED])
+{
+	for (; *path; path++)
+		if (*path == '\\')
+			out = stpcpy(out, "\\134");
+		else
+			*out++ = *path;
+	*out = 0;
 }
 
 /* A line of mountinfo without its end. The mount's root is shown relative to the root of the reader's namespace. */
 /* The fourth word is the mount's root: the path of a group, or of a file in one. */
 static void put_info(FILE *out, const char *line, const char *root)
 {
-	char group[LONG], seen[LONG];
+	char group[ESCAPED], above[ESCAPED], seen[LONG];
 	size_t before = 0;
 	for (int i = 0; i < 3; i++)
 		before += strcspn(line + before, " ") + 1;
 	if (!take_word(line, 3, group, sizeof group))
 		return;
-	seen_from(root, group, seen);
+	escape(root, above);
+	seen_from(above, group, seen);
 	fprintf(out, "%.*s%s%s - cgroup2 cgroup2 rw\n", (int)before, line, seen, line + before + strlen(group));
 }
 
@@ -191,7 +199,7 @@ static const struct form *form_of(const char *what)
 
 struct line {
 	char *tail; /* of mountinfo: from its dash on */
-	char place[LONG], type[64], source[64];
+	char place[ESCAPED], type[64], source[64];
 };
 
 /* False for a line in a form that is not known: it is shown as it is. */

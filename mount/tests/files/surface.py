@@ -235,8 +235,14 @@ def names():
     write(m.control("fork"), b"1 2")
     write("cgroup.procs", b"2")
     same("and a watch there is told", (Beside(os.read, watch, 100).result() or b"")[4:8], b"\2\0\0\0")
+    above = os.open("..", os.O_RDONLY)
+    write(m.control("undo"), b"1")
+    same("also of an undo", (Beside(os.read, watch, 100).result() or b"")[4:8], b"\2\0\0\0")
     os.close(watch)
     os.chdir("/")
+    write(m.control("undo"), b"3")
+    same("its mkdir is undone", error_of(lambda: os.stat("q" * rest, dir_fd=above)), "ENOENT")
+    os.close(above)
     m.end()
 
 
@@ -614,6 +620,16 @@ def over():
             same("a tmpfs in that below", ran.stdout.count(b"beside"), int(makes is script))
 
 
+def long_source():
+    """A cgroup2 of the machine is in no table, however long the name of its source is."""
+    script = 'mount -t cgroup2 %s "$1" && shift && exec "$@"' % (64 * "s")
+    tables = ["/proc/self/" + name for name in ("mounts", "mountinfo", "mountstats")]
+    with tempfile.TemporaryDirectory() as at:
+        words = ["unshare", "-UrmC", "sh", "-c", script, "sh", at, PROGRAM, "run", "--root", "--", "cat", *tables]
+        ran = subprocess.run(words, stdout=subprocess.PIPE, timeout=2 * PATIENCE)
+    same("a source of 64 bytes", (ran.returncode, at.encode() in ran.stdout), (0, False))
+
+
 def other():
     """A user whose group has another number."""
     words = ["unshare", "-Um", "--map-user=3", "--map-group=4", "--keep-caps", sys.executable, ME, "other"]
@@ -666,6 +682,7 @@ for test in (
     tables,
     long_table,
     over,
+    long_source,
     other,
 ):
     test()

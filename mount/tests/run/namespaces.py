@@ -160,6 +160,13 @@ grep " %s " /proc/self/mountinfo | cut -d ' ' -f 4-5""" % (
     wanted = "b\n1\npopulated 1\n/ %s\n" % where
     same("in a namespace it starts at its group", shell(script, "unshare", "-Cm"), (0, wanted, ""))
     same("in a user namespace below", shell(script, "unshare", "-UrCm"), (0, wanted, ""))
+    escaped = r"/a/x\x2dy"  # as systemd names a slice; tables escape the backslash
+    os.makedirs(AT + escaped + "/b")
+    into(escaped)
+    same("at one with a backslash in its name", shell(script, "unshare", "-Cm"), (0, wanted, ""))
+    into("/a")
+    for name in ("/b", ""):
+        os.rmdir(AT + escaped + name)
     script = """mount -t cgroup2 none %s
 echo 0 > %s/b/cgroup.procs
 look() { grep -e " %s " -e " %s " /proc/self/mountinfo | cut -d ' ' -f 4-5; }
