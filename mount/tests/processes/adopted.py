@@ -439,4 +439,16 @@ parent.kill()
 parent.wait()
 parent.stdout.close()
 m.end()
+
+# a move that the group refuses has adopted its process all the same
+m = Mount("--adopt", "--keep", "memory")
+os.mkdir(m.path("a"))
+for at in ((), ("a",)):
+    write(m.path(*at, "cgroup.subtree_control"), b"+memory")
+child = subprocess.Popen(["sleep", "600"])
+same("a group without room for processes", error_of(write, m.path("a", "cgroup.procs"), b"%d" % child.pid), "EBUSY")
+same("who was to move is in the root", read(m.path("cgroup.procs")), b"1\n%d\n" % child.pid)
+child.kill()
+child.wait()
+m.end()
 finish()

@@ -1,10 +1,14 @@
 /* Parts of the mount that can be called alone: the texts of /proc (proc_status.c), reservations (reservations.c), what the supervisor
    tells (supervisor_events.c) and asks the server (link.c), what is allowed in advance (advance.c), descriptors that are passed
-   (descriptor_passing.c), arrays (growing_array.c), and which commands are one operation (undo_steps.c). */
+   (descriptor_passing.c), what ends with its block (cleanup.h), arrays (growing_array.c), paths (group_paths.c, beneath.c), and which
+   commands are one operation (undo_steps.c). */
 #include "channels/advance.h"
 #include "channels/descriptor_passing.h"
 #include "channels/questions.h"
 #include "channels/supervisor_events.h"
+#include "common/beneath.h"
+#include "common/cleanup.h"
+#include "common/group_paths.h"
 #include "common/growing_array.h"
 #include "common/proc_status.h"
 #include "engine/undo_steps.h"
@@ -365,6 +369,40 @@ static void descriptors(void)
 	close(ends[0]);
 }
 
+/* ---------------------------------------------------------------- what ends with its block */
+
+/* Each was closed before, so it cannot be closed at the end of its block: the errno of a failure stays. */
+static bool errno_stays(int which)
+{
+	{
+		cleanup_fd int fd = which == 0 ? dup(0) : -1;
+		cleanup_stream FILE *stream = which == 1 ? fopen("/dev/null", "r") : NULL;
+		cleanup_directory DIR *directory = which == 2 ? opendir("/") : NULL;
+		close(which == 0 ? fd : which == 1 ? fileno(stream) : dirfd(directory));
+		errno = ENOENT;
+	}
+	return errno == ENOENT;
+}
+
+static void cleanups(void)
+{
+	int before = lowest_free(), kept;
+	is("a descriptor", errno_stays(0));
+	is("a stream", errno_stays(1));
+	is("a directory", errno_stays(2));
+	{
+		cleanup_fd int fd = dup(0), other = dup(0);
+		cleanup_stream FILE *stream = fopen("/dev/null", "r");
+		cleanup_directory DIR *directory = opendir("/");
+		is("all are open", fd >= 0 && other >= 0 && stream && directory);
+		kept = steal_fd(&fd);
+	}
+	is("one is kept, and the others are closed",
+		fcntl(kept, F_GETFD) >= 0 && lowest_free() == before + (kept == before));
+	close(kept);
+	is("then none is open", lowest_free() == before);
+}
+
 /* ---------------------------------------------------------------- arrays */
 
 static void arrays(void)
@@ -386,6 +424,71 @@ static void arrays(void)
 	is("an array grows one by one", is_there && has_room);
 	is("and keeps what it has", stays);
 	free(all);
+}
+
+/* ---------------------------------------------------------------- paths */
+
+static bool sees(const char *root, const char *group, const char *wanted)
+{
+	char out[PATH_MAX_SAID];
+	seen_from(root, group, out);
+	return strcmp(out, wanted) == 0;
+}
+
+static bool goes_up(const char *from, const char *wanted)
+{
+	char at[8];
+	snprintf(at, sizeof at, "%s", from);
+	go_up(at);
+	return strcmp(at, wanted) == 0;
+}
+
+static void paths(void)
+{
+	is("from the root", sees("/", "/", "/") && sees("/", "/a/b", "/a/b"));
+	is("from a group", sees("/a", "/a", "/") && sees("/a", "/a/b", "/b") && sees("/a/b", "/a/b/c/d", "/c/d"));
+	is("above it", sees("/a", "/", "/..") && sees("/a/b", "/a", "/..") && sees("/a/b/c", "/a", "/../.."));
+	is("beside it", sees("/a", "/b", "/../b") && sees("/a/b/c", "/a/d/c", "/../../d/c"));
+	is("names that begin alike", sees("/a", "/ab", "/../ab") && sees("/ab/c", "/a/c", "/../../a/c"));
+	is("above a group", goes_up("/a/b", "/a") && goes_up("/a", "/") && goes_up("/", "/"));
+	/* The names above take more room than those of the root. */
+	static char root[PATH_MAX_SAID], out[2 * PATH_MAX_SAID];
+	for (size_t i = 0; i + 1 < sizeof root; i++)
+		root[i] = i % 2 ? 'a' : '/';
+	seen_from(root, "/b", out);
+	size_t n = strlen(out);
+	is("a path that does not fit", n + 2 == PATH_MAX_SAID && strcmp(out + n - 5, "/../b") == 0);
+}
+
+/* The errno of an open below a root. */
+static int fault_of(int root, const char *path)
+{
+	errno = 0;
+	cleanup_fd int fd = beneath_open(root, path, O_RDONLY);
+	return errno;
+}
+
+static void beneath(void)
+{
+	cleanup_fd int top = open("/", O_PATH), here = open(".", O_PATH);
+	struct mount_id one, other;
+	if (mkdir("a", 0755) || mkdir("a/b", 0755) || symlink("b", "a/link") || symlink("/", "a/top"))
+		exit(2);
+	is("a directory", fault_of(here, "/a/b") == 0 && fault_of(here, "/") == 0 && fault_of(here, "/a/c") == ENOENT);
+	is("no link", fault_of(here, "/a/link") == ELOOP && fault_of(here, "/a/top/proc") == ELOOP);
+	is("nothing above", fault_of(here, "/..") == EXDEV && fault_of(here, "/a/../..") == EXDEV);
+	is("no other mount", fault_of(top, "/proc") == EXDEV);
+	cleanup_fd int fd = beneath_open(here, "/a", O_RDONLY), proc = open("/proc", O_PATH);
+	is("it is closed by an exec", fcntl(fd, F_GETFD) == FD_CLOEXEC);
+	is("one mount",
+		beneath_identify(fd, &one) && beneath_identify(here, &other) && beneath_is_same_mount(&one, &other));
+	is("another system", beneath_identify(proc, &other) && !beneath_is_same_system(&one, &other));
+	other = one;
+	other.mount++;
+	is("another mount of it", beneath_is_same_system(&one, &other) && !beneath_is_same_mount(&one, &other));
+	is("none", !beneath_identify(-1, &one) && errno == EBADF);
+	if (unlink("a/link") || unlink("a/top") || rmdir("a/b") || rmdir("a"))
+		exit(2);
 }
 
 /* ---------------------------------------------------------------- operations */
@@ -419,7 +522,10 @@ int main(void)
 	advance();
 	advance_of_many();
 	descriptors();
+	cleanups();
 	arrays();
+	paths();
+	beneath();
 	operations();
 	printf("  %d steps, %d failed\n", steps, wrong);
 	return wrong != 0;

@@ -17,6 +17,7 @@
 #include "server/open_files.h"
 #include "server/operations.h"
 #include "server/owner.h"
+#include "server/texts.h"
 #include "server/watch.h"
 #include "values/values.h"
 #include <signal.h>
@@ -358,6 +359,11 @@ static void ring_table(void)
 {
 	mount_tables_ring(1);
 }
+/* A file whose text needs no other call. */
+static void read_text(void)
+{
+	texts_read("/", &(struct file){ .name = "cpu.stat", .constant = "\n" }, false, &text, &size);
+}
 static void order(void)
 {
 	pid_t process;
@@ -447,6 +453,7 @@ static const struct {
 	{ "get", find_table },
 	{ "mount_tables_close", close_table },
 	{ "mount_tables_ring", ring_table },
+	{ "texts_read", read_text },
 	{ "watch_above", above },
 	{ "watch_below", below },
 	{ "watch_forget", forget_watch },
