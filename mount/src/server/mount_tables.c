@@ -133,17 +133,17 @@ void mount_tables_close(long number)
 
 /* ---------------------------------------------------------------- the texts */
 
-/* A word of a line, counted from 0. It is cut where it is too long. False: there is no such word. */
+/* A word of a line, counted from 0. One blank ends each, and a source may be empty. It is cut where it is too long. False: there is no
+   such word. */
 static bool take_word(const char *line, int which, char *out, size_t size)
 {
-	line += strspn(line, " ");
 	for (; which > 0; which--) {
 		line += strcspn(line, " ");
-		line += strspn(line, " ");
+		if (!*line++)
+			return false;
 	}
-	size_t n = strcspn(line, " ");
-	snprintf(out, size, "%.*s", (int)n, line);
-	return n > 0;
+	snprintf(out, size, "%.*s", (int)strcspn(line, " "), line);
+	return true;
 }
 
 /* A path as a table has it. Of the bytes that a name of a group may have, the kernel escapes one. */
@@ -183,11 +183,11 @@ static void put_entry(FILE *out, const char *line, const char *place)
 	fprintf(out, "cgroup2 %s cgroup2 %s 0 0\n", place, options);
 }
 
-/* Which words of a line are the place, the type and the source; those of mountinfo are counted from its dash on. */
+/* Which words of a line are the place, the type and the source; those of mountinfo are counted from the blank before its dash on. */
 static const struct form {
 	const char *what;
 	int place, type, source;
-} forms[] = { { "mounts", 1, 2, 0 }, { "mountinfo", 4, 1, 2 }, { "mountstats", 4, 7, 1 } };
+} forms[] = { { "mounts", 1, 2, 0 }, { "mountinfo", 4, 2, 3 }, { "mountstats", 4, 7, 1 } };
 
 static const struct form *form_of(const char *what)
 {

@@ -454,6 +454,9 @@ def superuser():
     for name in ("depth", "newest", "trace"):
         for value in (b"\n", b"1", b"1 2"):
             same("a write of %r to %s" % (value, name), error_of(write, AT + "/.makhloeum/" + name, value), "EINVAL")
+    write(AT + "/.makhloeum/fork", b"1 4194303")
+    same("a number of no process is listed", b"4194303" in read(AT + "/cgroup.procs").split(), True)
+    write(AT + "/.makhloeum/exit", b"4194303")
 
 
 def table(text, what):
@@ -620,14 +623,15 @@ def over():
             same("a tmpfs in that below", ran.stdout.count(b"beside"), int(makes is script))
 
 
-def long_source():
-    """A cgroup2 of the machine is in no table, however long the name of its source is."""
-    script = 'mount -t cgroup2 %s "$1" && shift && exec "$@"' % (64 * "s")
-    tables = ["/proc/self/" + name for name in ("mounts", "mountinfo", "mountstats")]
-    with tempfile.TemporaryDirectory() as at:
-        words = ["unshare", "-UrmC", "sh", "-c", script, "sh", at, PROGRAM, "run", "--root", "--", "cat", *tables]
-        ran = subprocess.run(words, stdout=subprocess.PIPE, timeout=2 * PATIENCE)
-    same("a source of 64 bytes", (ran.returncode, at.encode() in ran.stdout), (0, False))
+def sources():
+    """A cgroup2 of the machine is in no table, whatever the name of its source is."""
+    script = 'mount -t cgroup2 "$1" "$2" && shift 2 && exec "$@"'
+    shows = [PROGRAM, "run", "--root", "--", "cat", *("/proc/self/mount" + name for name in ("s", "info", "stats"))]
+    for source in ("s" * 64, ""):
+        with tempfile.TemporaryDirectory() as at:
+            words = ["unshare", "-UrmC", "sh", "-c", script, "sh", source, at, *shows]
+            ran = subprocess.run(words, stdout=subprocess.PIPE, timeout=2 * PATIENCE)
+        same("a source of %d bytes" % len(source), (ran.returncode, at.encode() in ran.stdout), (0, False))
 
 
 def other():
@@ -682,7 +686,7 @@ for test in (
     tables,
     long_table,
     over,
-    long_source,
+    sources,
     other,
 ):
     test()
