@@ -4,6 +4,7 @@ import os
 import pty
 import re
 import shutil
+import signal
 import socket
 import stat
 import subprocess
@@ -447,8 +448,8 @@ def nobody_listens():
     shutil.rmtree(home)
 
 
-def ends_unheard():
-    """A mount that ends before the warning could be read waits a while for who reads it, and here for an hour."""
+def ends_unheard(sent=None):
+    """A mount that ends before the warning could be read waits a while for who reads it, and here for an hour. A signal ends it then."""
     home, (r, w) = tempfile.mkdtemp(), os.pipe()
     at, trace = os.path.join(home, "at"), os.path.join(home, "trace")
     filler = fcntl.fcntl(w, fcntl.F_SETPIPE_SZ, 4096) * b"x"
@@ -466,13 +467,22 @@ def ends_unheard():
     os.close(fd)
     step("it can be unmounted", until(lambda: subprocess.run(["fusermount3", "-u", at], stderr=-3).returncode == 0))
     step("it does not end", not until(lambda: p.poll() is not None, 0.5))
-    said = b""
-    while not said.endswith(b"\n"):
-        said += Beside(os.read, r, 8192).result() or b"nothing\n"
-    same("it is said", said[len(filler) :].count(b"cgshell < %s" % trace.encode()), 1)
-    same("then it ends", status_within(p), 0)
+    if sent:
+        # one that comes before the warning ends the mount, as the unmount does
+        until(lambda: p.poll() is not None or p.send_signal(sent))
+        same("a signal ends it", status_within(p), -sent)
+    else:
+        said = b""
+        while not said.endswith(b"\n"):
+            said += Beside(os.read, r, 8192).result() or b"nothing\n"
+        same("it is said", said[len(filler) :].count(b"cgshell < %s" % trace.encode()), 1)
+        same("then it ends", status_within(p), 0)
     os.close(r)
     shutil.rmtree(home)
+
+
+def ended_unheard():
+    ends_unheard(signal.SIGTERM)
 
 
 if sys.argv[1:] == ["small"]:
@@ -493,7 +503,7 @@ for test in (
     terminal,
     long_trace,
     nobody_listens,
-    *((ends_unheard,) if os.path.exists(PATIENT) else ()),
+    *((ends_unheard, ended_unheard) if os.path.exists(PATIENT) else ()),
 ):
     if test.__name__ in sys.argv[1:] or not sys.argv[1:]:
         test()

@@ -597,6 +597,15 @@ def adopted():
         family = Family()
 
     each("an adoption", lambda: write(group + "/cgroup.procs", b"%d" % family.process.pid), state, again)
+    os.mkdir(m.path("b"))
+
+    def moves(*names):
+        write(m.path(*names, "cgroup.procs"), b"%d" % family.process.pid)
+
+    def where():
+        return [b"%d" % family.process.pid in read(m.path(*at, "cgroup.procs")).split() for at in ((), "a", "b")]
+
+    each("a move of who was adopted before", lambda: moves("b"), where, lambda: moves("a"))
     wrong = []
     for nth, rest in places():
         family.end()

@@ -192,6 +192,8 @@ for _ in range(1000):
     write(m.path("cgroup.procs"), b"4\n")
 for group in (*groups, "q0"):
     write(m.path(group, "cgroup.procs"), b"4\n")
+threads = len(os.listdir("/proc/%d/task" % m.process.pid))
+step("one thread waits for it, whatever changes", threads < len(groups), threads)
 for pid in companions:
     os.kill(pid, signal.SIGCONT)
 tells("all that changed while the companion was stopped", late, *files)
