@@ -529,7 +529,9 @@ class Family:
     """A process with two children that come after it was moved to a group."""
 
     def __init__(self, procs=None):
-        self.process = subprocess.Popen(["sh", "-c", CHILDREN], stdin=subprocess.PIPE, stdout=subprocess.PIPE)
+        # it has none of this test's pipes: else who reads one would wait for it where this test is broken off
+        pipes = dict(stdin=subprocess.PIPE, stdout=subprocess.PIPE, stderr=subprocess.DEVNULL)
+        self.process = subprocess.Popen(["sh", "-c", CHILDREN], **pipes)
         self.all = [self.process.pid]
         if procs:
             write(procs, b"%d" % self.process.pid)
