@@ -386,7 +386,7 @@ static bool errno_stays(int which)
 
 static void cleanups(void)
 {
-	int before = lowest_free(), kept;
+	int kept, others[3];
 	is("a descriptor", errno_stays(0));
 	is("a stream", errno_stays(1));
 	is("a directory", errno_stays(2));
@@ -394,13 +394,15 @@ static void cleanups(void)
 		cleanup_fd int fd = dup(0), other = dup(0);
 		cleanup_stream FILE *stream = fopen("/dev/null", "r");
 		cleanup_directory DIR *directory = opendir("/");
-		is("all are open", fd >= 0 && other >= 0 && stream && directory);
+		if (!stream || !directory)
+			exit(2);
 		kept = steal_fd(&fd);
+		memcpy(others, (int[]){ other, fileno(stream), dirfd(directory) }, sizeof others);
 	}
-	is("one is kept, and the others are closed",
-		fcntl(kept, F_GETFD) >= 0 && lowest_free() == before + (kept == before));
+	is("one is kept", fcntl(kept, F_GETFD) >= 0);
+	for (int i = 0; i < 3; i++)
+		is("the others are closed", fcntl(others[i], F_GETFD) < 0);
 	close(kept);
-	is("then none is open", lowest_free() == before);
 }
 
 /* ---------------------------------------------------------------- arrays */
