@@ -172,6 +172,7 @@ void calls_after(struct thread *t)
 /* The server keeps the root that was stored until it hears of a namespace, or of none. */
 void calls_abandon(struct thread *t)
 {
+	t->asks_strict = t->asks_filter = t->adds_filter = false;
 	if (t->unshares)
 		link_namespace(0, unshare_of(t));
 	t->unshares = false;

@@ -13,7 +13,8 @@ void calls_before(struct thread *t);
 void calls_after(struct thread *t);
 /* The answer of helper_count_filters or helper_copy_filter, for which the thread waits. */
 void calls_filters(const struct helper_reply *reply);
-/* The thread has ended: the server forgets the cgroup namespace that its call was about to make. */
+/* The thread has ended, or another has its number by an exec: its call is forgotten, and the server forgets the cgroup namespace that it
+   was about to make. */
 void calls_abandon(struct thread *t);
 
 #endif

@@ -125,7 +125,7 @@ static void on_vfork_done(struct thread *t)
 static void on_exec(struct thread *t)
 {
 	pid_t former = tracee_message(t->id);
-	t->asks_strict = t->asks_filter = t->adds_filter = false;
+	calls_abandon(t); /* that of the first thread */
 	births_abandon(t);
 	struct thread *other = former == t->id ? NULL : threads_find(former);
 	if (other) {
