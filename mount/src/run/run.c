@@ -180,7 +180,8 @@ static int watch_over(const struct ears *ears, pid_t program)
 		if (from[2].revents)
 			hear_helper();
 		orders = (orders || from[3].revents) && tracer_obey();
-		int next = sooner(job_control_follow(program), signals_pass_on(program)); /* in this order: it takes some too */
+		int next = job_control_follow(program); /* it takes signals too, so it comes first */
+		next = sooner(next, signals_pass_on(program));
 		next = sooner(sooner(sooner(next, births_give_up()), frozen_threads_look_again()), link_wake_late());
 		/* The only place where the supervisor waits for the program. */
 		if (poll(from, sizeof from / sizeof *from, more || orders ? 0 : next) < 0 && errno != EINTR)

@@ -41,10 +41,10 @@ static bool is_followed(const struct thread *first)
 
 /* Whether another process of the run has still to handle the signal that the whole group got: an
    editor restores the terminal first. After GRACE it stops without them. */
-static bool has_unstopped_others(const struct thread *first)
+static bool has_unstopped_others(void)
 {
 	for (const struct thread *t = threads_all(); t; t = t->next)
-		if (t->id == t->process && t != first && t->rest != LISTENS && getpgid(t->id) == getpgrp())
+		if (t->id == t->process && t->rest != LISTENS && getpgid(t->id) == getpgrp())
 			return true;
 	return false;
 }
@@ -79,7 +79,7 @@ static void stop_by(int signal)
 static void stop(int signal)
 {
 	pid_t had = tcgetpgrp(terminal);
-	bool returns = had > 0 && had != getpgrp() && is_group_of_run(had);
+	bool returns = had != getpgrp() && is_group_of_run(had);
 	stop_by(signal);
 	if (returns && tcgetpgrp(terminal) == getpgrp())
 		tcsetpgrp(terminal, had); /* it fails if the group has ended */
@@ -102,15 +102,15 @@ int job_control_follow(pid_t program)
 	if (since == 0)
 		since = milliseconds();
 	long long left = since + GRACE - milliseconds();
-	if (left > 0 && has_unstopped_others(first))
+	if (left > 0 && has_unstopped_others())
 		return (int)left;
+	/* First: after a SIGCONT the program may not have continued yet, and this must not stop
+	   again for the same stop. */
+	followed = true;
 	/* what came last counts */
 	signals_hear(program);
 	if (signals_waits(SIGCONT))
 		return -1;
-	/* First: after the SIGCONT the program may not have continued yet, and this must not stop
-	   again for the same stop. */
-	followed = true;
 	stop(signal);
 	return 0;
 }

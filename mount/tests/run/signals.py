@@ -495,6 +495,30 @@ def replaced():
     run.p.stdout.close()
 
 
+def continued():
+    """A SIGCONT waits to be passed on while something else stops the program: makhloeum does not stop with it, and the program goes on."""
+
+    def goes_on():
+        """Not if the SIGCONT is passed on before the stop, as it may be on a busy machine: then both are stopped."""
+        run = Run(ALL)
+        same("it runs", run.line(), "ready\n")
+        program = run.program()
+        os.kill(run.p.pid, signal.SIGHUP)
+        same("SIGHUP comes", run.line(), "1\n")
+        for pid, number in ((run.p.pid, signal.SIGCONT), (program, signal.SIGSTOP), (run.p.pid, signal.SIGWINCH)):
+            os.kill(pid, number)
+        both = Beside(lambda: {run.line(), run.line()})
+        until(lambda: both.got or state_of(run.p.pid) == "T")
+        goes = both.got == [{"18\n", "28\n"}]
+        run.p.kill()
+        run.p.wait()
+        both.result()
+        run.p.stdout.close()
+        return goes
+
+    step("the program goes on", any(goes_on() for _ in range(20)))
+
+
 def far_apart():
     """Two signals of one sender are two if more than five seconds are between them. The other tests are made meanwhile."""
     runs = [Run(ALL) for _ in range(2)]
@@ -527,7 +551,7 @@ tests = [
     timers,
     pending,
 ]
-tests += [of_children, kinds, replaced]
+tests += [of_children, kinds, replaced, continued]
 lasting = far_apart() if "far_apart" in sys.argv[1:] or not sys.argv[1:] else iter(())
 next(lasting, None)
 for test in [t for t in tests if t.__name__ in sys.argv[1:] or not sys.argv[1:]]:
