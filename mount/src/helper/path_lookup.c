@@ -393,7 +393,7 @@ int path_lookup_find(pid_t thread, int directory, const char *path, bool follows
 		cleanup_fd int found = (int)syscall(SYS_openat2, from, path, &how, sizeof how);
 		/* What is found in /proc was found with this process's numbers and its own /proc/self, so it is looked up
 		   again, by hand. */
-		if (found >= 0 && !proc_numbers_is_proc(found) && !proc_numbers_is_proc(from))
+		if (found >= 0 && !proc_numbers_is_proc(found))
 			return steal_fd(&found);
 	}
 	return walk_by_hand(thread, root, steal_fd(&from), path, follows, resolve, before);

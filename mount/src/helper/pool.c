@@ -1,6 +1,5 @@
 #include "helper/pool.h"
 #include <pthread.h>
-#include <time.h>
 #include <unistd.h>
 
 /* MOST: how many calls of each source the program may keep waiting before others are declined.
@@ -22,7 +21,6 @@ static pthread_attr_t small;
 /* What follows is read and changed with the lock. Who has it waits for nothing but the kernel to make a thread. */
 static pthread_mutex_t lock = PTHREAD_MUTEX_INITIALIZER;
 static pthread_cond_t begun = PTHREAD_COND_INITIALIZER; /* a call has begun, while the thread that watches rests */
-static pthread_cond_t freed = PTHREAD_COND_INITIALIZER; /* a thread is no longer kept waiting */
 static pthread_cond_t needed = PTHREAD_COND_INITIALIZER; /* the first thread has to watch */
 static bool is_watched; /* a thread watches, or has been called to */
 static bool rests; /* it waits for a call to begin */
@@ -31,15 +29,11 @@ static bool first_is_free; /* the first thread can't end without the process, so
 static void *watch_first(void *unused);
 
 /* With the lock, which others may have meanwhile. */
-static void wait_for_a_look(pthread_cond_t *what)
+static void wait_for_a_look(void)
 {
-	struct timespec end;
-	/* Not the time of day, which somebody may set. */
-	clock_gettime(CLOCK_MONOTONIC, &end);
-	end.tv_nsec += LOOK * 1000000L;
-	end.tv_sec += end.tv_nsec / 1000000000;
-	end.tv_nsec %= 1000000000;
-	pthread_cond_clockwait(what, &lock, CLOCK_MONOTONIC, &end);
+	pthread_mutex_unlock(&lock);
+	usleep(1000 * LOOK);
+	pthread_mutex_lock(&lock);
 }
 
 /* With the lock. Whether a thread watches, or soon does. */
@@ -70,7 +64,7 @@ static bool may_answer(struct pool_source *s)
 			s->stalled = true;
 			return false;
 		}
-		wait_for_a_look(&freed);
+		wait_for_a_look();
 	}
 	return true;
 }
@@ -103,12 +97,12 @@ static bool is_quiet(void)
 
 /* With the lock. Returns the source from which this thread has to receive; NULL if the first thread watches in its place. It rests
    after a while without calls: to wake a thread that sleeps for a look costs the next caller time. */
-static struct pool_source *watch(bool is_first)
+static struct pool_source *watch(void)
 {
 	int quiet = 0;
 	(void)is_quiet(); /* so that a call which lasts already is taken over after one look, not two */
 	for (;;) {
-		wait_for_a_look(&begun);
+		wait_for_a_look();
 		struct pool_source *s = take_over();
 		if (s) {
 			is_watched = false;
@@ -117,7 +111,7 @@ static struct pool_source *watch(bool is_first)
 		quiet = is_quiet() ? quiet + 1 : 0;
 		if (quiet < QUIET)
 			continue;
-		if (first_is_free && !is_first) {
+		if (first_is_free) {
 			is_watched = false;
 			get_watcher();
 			return NULL;
@@ -171,15 +165,12 @@ static void receive_from(struct pool_source *s)
 /* With the lock. Whether this thread, which was kept waiting, watches from now on; else it ends. */
 static bool is_needed(bool is_first)
 {
-	/* To all: each thread in may_answer has a source of its own to look at. */
-	pthread_cond_broadcast(&freed);
 	/* So there are only as many threads as are needed. The first one stays, since its end is that
 	   of the process. */
 	if (is_watched && !is_first)
 		return false;
 	if (is_watched) {
-		first_is_free = true;
-		end_rest(); /* another thread watches, and ends when it is quiet */
+		first_is_free = true; /* another thread watches, and ends when it is quiet after a call */
 		while (first_is_free)
 			pthread_cond_wait(&needed, &lock);
 	}
@@ -192,7 +183,7 @@ static bool is_needed(bool is_first)
 static void work(bool is_first)
 {
 	struct pool_source *s;
-	while ((s = watch(is_first))) {
+	while ((s = watch())) {
 		get_watcher(); /* if there is none, the next call looks for one again */
 		receive_from(s);
 		if (!is_needed(is_first))

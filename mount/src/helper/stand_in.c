@@ -94,11 +94,9 @@ static bool look_at(pid_t thread, struct place *p)
 	p->directory = open_of(thread, "cwd");
 	p->user = proc_status_number(thread, "Uid:"); /* the last of the line */
 	p->group = proc_status_number(thread, "Gid:");
-	unsigned long long effective = capabilities_of(thread, "CapEff:"), permitted = capabilities_of(thread, "CapPrm:");
-	for (int i = 0; i < _LINUX_CAPABILITY_U32S_3; i++) {
-		p->capabilities[i].effective = (__u32)(effective >> 32 * i);
-		p->capabilities[i].permitted = (__u32)(permitted >> 32 * i);
-	}
+	unsigned long long effective = capabilities_of(thread, "CapEff:");
+	for (int i = 0; i < _LINUX_CAPABILITY_U32S_3; i++)
+		p->capabilities[i].permitted = p->capabilities[i].effective = (__u32)(effective >> 32 * i);
 	return found && p->root >= 0 && p->directory >= 0 && p->user >= 0 && p->group >= 0;
 }
 
