@@ -392,6 +392,15 @@ def others():
     r, w = os.pipe()
     pid = os.fork()
     if pid == 0:
+        made = libc.unshare(CLONE_NEWNS), libc.unshare(CLONE_NEWUSER)
+        os.write(w, repr((made, error_of(mount, "/nowhere"), error_of(mount, "/"))).encode())
+        os._exit(0)
+    os.waitpid(pid, 0)
+    wanted = ((0, 0), "ENOENT", "EPERM")
+    same("a mount namespace of above one's users", os.read(r, 999), repr(wanted).encode())
+    r, w = os.pipe()
+    pid = os.fork()
+    if pid == 0:
         os.chroot(home)
         os.chdir("/")
         got = [
