@@ -278,6 +278,15 @@ def rooted():
     into("")
 
 
+def end_of_memory():
+    """The address after a page that can be read and written. There is no memory there."""
+    page = os.sysconf("SC_PAGE_SIZE")
+    libc.mmap.restype = ctypes.c_void_p
+    memory = libc.mmap(None, 2 * page, 3, 0x22, -1, 0)  # to read and write, of no file
+    libc.munmap(ctypes.c_void_p(memory + page), page)
+    return memory + page
+
+
 def others():
     """Other file systems are mounted as the kernel mounts them for their caller."""
     home = tempfile.mkdtemp()
@@ -360,9 +369,7 @@ def others():
         same("flags %d" % flags, has[: len(words)], words)
         libc.umount2(at.encode(), DETACH)
     page, options = os.sysconf("SC_PAGE_SIZE"), b"mode=750\0"
-    libc.mmap.restype = ctypes.c_void_p
-    memory = libc.mmap(None, 2 * page, 3, 0x22, -1, 0)  # to read and write, of no file
-    libc.munmap(ctypes.c_void_p(memory + page), page)
+    memory = end_of_memory() - page
     for before in (len(options), page - 3 * len(options)):  # at the end of the last page, and near its start
         ctypes.memmove(memory + page - before, options, len(options))
         libc.mount(b"none", at.encode(), b"tmpfs", 0, ctypes.c_void_p(memory + page - before))
@@ -1037,7 +1044,8 @@ def attributes(path):
 def configured(at=AT):
     """A mount of cgroup2 that is made by the new calls, as libmount and LXC do it."""
     place, path = AT if at == AT else os.path.dirname(at), tempfile.mkdtemp()
-    where, nowhere_to_read = path.encode(), ctypes.c_void_p(8)
+    where, nowhere_to_read, without_end = path.encode(), ctypes.c_void_p(8), ctypes.c_void_p(end_of_memory() - 3)
+    ctypes.memmove(without_end, b"abc", 3)
     os.mkdir(at + "/known")
     for name, wanted, words in (
         ("unknown flags", "EINVAL", (b"cgroup2", 2)),
@@ -1088,6 +1096,7 @@ def configured(at=AT):
         ((SET_STRING, b"rw", b"1", 1), "EINVAL"),
         ((SET_STRING, None, b"1"), "EINVAL"),
         ((SET_STRING, nowhere_to_read, b"x"), "EFAULT"),
+        ((SET_STRING, without_end, b"x"), "EFAULT"),
         ((SET_STRING, b"source", nowhere_to_read), "EFAULT"),
         ((SET_STRING, b"k" * 256, nowhere_to_read), "EINVAL"),
         *(((command, b"rw", *words), 0) for command, *words in OF_OTHER_KINDS),
