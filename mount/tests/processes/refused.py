@@ -2,6 +2,7 @@
 not count, or stays with makhloeum. This file is also the program (refused.py inside NAME)."""
 import ctypes
 import errno
+import mmap
 import os
 import resource
 import select
@@ -21,6 +22,7 @@ THREAD, SIGHAND, VM, FS = 0x10000, 0x800, 0x100, 0x200
 NEWNS, NEWCGROUP, NEWUSER, NEWPID = 0x20000, 0x2000000, 0x10000000, 0x20000000
 INTO, TIMES, ROOM = 0x200000000, 50, 4
 PARENT, PAGES = 0x8000, (1 << 64) - 4096
+NORESERVE, POPULATE_READ = 0x4000, 22
 
 
 def clone(flags, *more):
@@ -365,7 +367,67 @@ def told():
         same("an end", changed(), wanted)
 
 
-INSIDE = {births: [], others: [], crowd: [], orphaned: [], unused: ["--control"], told: []}
+def forks_slowly(starts, told):
+    """At each start it says so and forks. A fork copies all tables of its pages, which takes long, and are no memory."""
+    pages = mmap.mmap(-1, 16 << 30, mmap.MAP_PRIVATE | mmap.MAP_ANONYMOUS | NORESERVE)
+    pages.madvise(mmap.MADV_NOHUGEPAGE)
+    pages[0] = 1  # the kernel copies no table of pages that were only read
+    pages.madvise(POPULATE_READ)
+    while os.read(starts, 1):
+        os.write(told, b"%20s" % b"begins")
+        try:
+            pid = os.fork()
+        except OSError as e:
+            os.write(told, b"%20s" % errno.errorcode[e.errno].encode())
+            continue
+        if pid == 0:
+            signal.pause()
+        os.write(told, b"%20s" % b"ok")
+        os.read(starts, 1)
+        os.kill(pid, signal.SIGKILL)
+        os.waitpid(pid, 0)
+
+
+def crossed():
+    """A fork that only a child that is being made in another group refuses, by the limit of a group above both: it is an event there."""
+    for g in ("/p", "/p/a", "/p/b"):
+        os.mkdir(AT + g)
+    (r, starts), (told, w) = os.pipe(), os.pipe()
+    slow = os.fork()
+    if slow == 0:
+        into("/p/a")
+        forks_slowly(r, w)
+    into("/p/b")
+    write(AT + "/p/pids.max", b"3")
+    says = lambda: os.read(told, 20).strip().decode()
+    reached, turn, refused, lines = 0, 0, 0, set()
+    while reached < 3 and turn < 600:
+        os.write(starts, b"x")
+        says()
+        time.sleep(turn % 20 * 0.002)
+        own, newest = fork(), read(AT + "/.makhloeum/newest")
+        is_being_made = len(read(AT + "/p/a/cgroup.procs").split()) == 1
+        other = says()
+        refused += [own, other].count("EAGAIN")
+        turn += 1
+        if (own, is_being_made, other) == ("EAGAIN", True, "ok"):
+            reached += 1
+            lines.add(newest)
+        if other == "ok":
+            os.write(starts, b"x")
+    step("there were such forks, in %d turns" % turn, reached == 3, reached)
+    fork_of = b"fork %d %%d\n" % os.getpid()
+    wanted = fork_of % 4194303 + fork_of % 4194302 + b"exit 4194303\n"
+    same("its lines are one operation: a process takes the place of the other child, and leaves", lines, {wanted})
+    step("and takes no place", until(lambda: read(AT + "/p/pids.current") == b"2\n"))
+    os.kill(slow, signal.SIGKILL)
+    os.waitpid(slow, 0)
+    same("each is one event", read(AT + "/p/pids.events"), b"max %d\n" % refused)
+    same("of the limit's group alone", read(AT + "/p/b/pids.events"), b"max 0\n")
+    same("then there is room for two", places(""), 2)
+
+
+INSIDE = {births: [], others: [], crowd: [], orphaned: [], unused: ["--control"], told: [], crossed: ["--control"]}
 inside(*INSIDE)
 run_each(INSIDE)
 finish()
