@@ -187,7 +187,7 @@ static bool step_back(enum effect effect)
 		memcpy(line, "undo", line_size);
 	}
 	ask(0, &code);
-	return effect_since(before) == (effect == UNDONE ? RECORDED : UNDONE);
+	return effect_since(before) != NOTHING;
 }
 
 /* A warning, once, if the trace is longer than cgreplay reads, and a comment at that place in the trace. */

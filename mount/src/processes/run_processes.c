@@ -259,7 +259,7 @@ static int tell(const struct reservation *r, pid_t child, bool *frozen)
 		tasks_add(child, r->parent);
 	else
 		tasks_begin_process(child);
-	*frozen = !r->is_thread && freezer_born(child, at);
+	*frozen = freezer_born(child, at); /* of a thread nobody reads it: its process is ordered to stop */
 	if (has_parent)
 		allow_next(r->parent, r->is_thread, at);
 	return 0;
@@ -368,7 +368,7 @@ int run_processes_leave(const char *group)
 	const char *names;
 	size_t count;
 	/* Without zombies the engine decides alone. */
-	if (zombies_count() == 0 || is_root(group))
+	if (zombies_count() == 0)
 		return 0;
 	/* A group with groups below it can't be removed anyhow. */
 	int fault = engine_children(group, &names, &count);
@@ -384,7 +384,7 @@ int run_processes_leave(const char *group)
 
 bool run_processes_kill(pid_t pid)
 {
-	if (!is_of_run(pid) || zombies_forget(pid) || process_at(pid)->life == UNKNOWN)
+	if (zombies_forget(pid) || process_at(pid)->life == UNKNOWN)
 		return false;
 	/* The engine's line takes all of them out. Real threads end with their process. */
 	for (pid_t t = pid; t; t = tasks_next(t))

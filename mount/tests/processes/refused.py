@@ -312,8 +312,10 @@ def unused():
     os.mkdir(AT + "/a")
     into("/a")
     write(AT + "/a/pids.max", b"1")
+    other = group("/")
     for times in (1, 2):
-        same("a fork", fork(), "EAGAIN")
+        got = clone3(INTO, cgroup=other), fork()
+        same("a child for another group, which allows none in this one, and a fork", got, ("ok", "EAGAIN"))
         newest = read(AT + "/.makhloeum/newest")
         same("its line", newest, b"fork %d 4194303\n" % os.getpid())
         same("an event", read(AT + "/a/pids.events"), b"max %d\n" % times)

@@ -8,6 +8,7 @@ import select
 import signal
 import subprocess
 import sys
+import tempfile
 import threading
 import time
 
@@ -16,6 +17,7 @@ from support import AT, PATIENCE, clone_into, error_of, finish, inside, into, is
 from support import same, spared, step, ticks, until, write
 
 MADV_POPULATE_READ = 22  # Linux 5.14
+TRACE = os.path.join(tempfile.gettempdir(), "trace-of-%s")
 
 
 def count(group):
@@ -128,6 +130,8 @@ def removed():
     dead = zombie("/p/b/c"), zombie("/p/b"), zombie("/p/b/c")
     same("a group with another", error_of(os.rmdir, AT + "/p/b"), "EBUSY")
     same("nobody has moved", [count(g) for g in ("/p", "/p/b", "/p/b/c")], [3, 3, 2])
+    trace = read(TRACE % "removed")
+    step("the refusal is in the trace, as nothing was to be undone", b"\nrmdir /p/b\n" in trace, trace)
     depth = int(read(AT + "/.makhloeum/depth"))
     same("the innermost goes", error_of(os.rmdir, AT + "/p/b/c"), "ok")
     moved = [b"write /p/b cgroup.procs %d\n" % pid for pid in sorted((dead[0], dead[2]))]
@@ -258,6 +262,37 @@ def undone():
     same("its end changes nothing", count("/p"), 1)
     os.waitpid(stays, 0)
     same("the end of the other one does", seen("/p"), EMPTY)
+    lives = sleeper("/p")
+    write(AT + "/.makhloeum/undo", b"2")
+    same("nor does one count that lives", (seen("/p"), spared(lives)), (EMPTY, [True]))
+    end(lives)
+    same("its end is no line", (count("/p"), b"\nexit %d\n" % lives in read(TRACE % "undone")), (0, False))
+
+
+def unkilled():
+    """The kill of one is undone, before makhloeum hears of its end or afterwards: its number counts until it ends in the hierarchy alone.
+    Nobody has the number, so it does not stop for a freezer."""
+    os.mkdir(AT + "/p")
+    supervisor, events = os.getppid(), lambda: read(AT + "/p/cgroup.events")
+    for is_heard in (True, False):
+        write(AT + "/p/cgroup.freeze", b"0")
+        pid = sleeper("/p")
+        write(AT + "/p/cgroup.freeze", b"1")
+        step("it is frozen", until(lambda: events() == b"populated 1\nfrozen 1\n"), events())
+        if not is_heard:
+            os.kill(supervisor, signal.SIGSTOP)
+            step("it stops", until(lambda: b"T" in read("/proc/%d/stat" % supervisor).split()[:3]))
+        write(AT + "/p/cgroup.kill", b"1")
+        if is_heard:
+            os.waitpid(pid, 0)
+        write(AT + "/.makhloeum/undo", b"1")
+        if not is_heard:
+            os.kill(supervisor, signal.SIGCONT)
+            os.waitpid(pid, 0)
+        got = [(count("/p"), events()) for _ in range(5)]
+        same("it counts, heard %s" % is_heard, got, [(1, b"populated 1\nfrozen 0\n")] * 5)
+        write(AT + "/.makhloeum/exit", b"%d" % pid)
+        same("and then not", seen("/p"), EMPTY)
 
 
 def unheard():
@@ -554,6 +589,7 @@ INSIDE = (
     told,
     waited,
     undone,
+    unkilled,
     unheard,
     many,
     born,
@@ -569,6 +605,6 @@ INSIDE = (
 inside(*INSIDE)
 with subprocess.Popen(["sleep", "6000"], preexec_fn=lambda: libc.prctl(1, 9)) as other:  # it ends with this process
     os.environ["STRANGER"] = str(other.pid)
-    run_each(dict.fromkeys(INSIDE, ["--control"]), lanes=3)
+    run_each({t: ["--control", "--trace", TRACE % t.__name__] for t in INSIDE}, lanes=3)
     other.kill()
 finish()
