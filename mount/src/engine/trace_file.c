@@ -6,16 +6,18 @@
 #include <time.h>
 #include <unistd.h>
 
-/* It never waits: a FIFO without a reader is refused and not opened. It is opened without O_CREAT
-   first: so it is known whether it was made, and it may be removed if the mount does not begin. */
+/* It never waits: a FIFO without a reader is refused and not opened. It is known whether it was made: it is removed then if the mount
+   does not begin. */
 static void open_to_write(struct trace_file *k)
 {
 	const int flags = O_WRONLY | O_CLOEXEC | O_NONBLOCK;
 	k->fd = open(k->name, flags);
-	if (k->fd >= 0 || errno != ENOENT) /* else a file that was there could be taken for a new one, and be removed */
+	if (k->fd >= 0)
 		return;
-	k->fd = open(k->name, flags | O_CREAT, 0600);
+	k->fd = open(k->name, flags | O_CREAT | O_EXCL, 0600);
 	k->was_made = k->fd >= 0;
+	if (k->fd < 0) /* the name is there, perhaps of a link to nothing, which is not to be removed */
+		k->fd = open(k->name, flags | O_CREAT, 0600);
 }
 
 bool trace_file_open(struct trace_file *k, const char *name)
@@ -99,12 +101,11 @@ int trace_file_add(struct trace_file *k, const char *bytes, size_t size)
 	return 0;
 }
 
-/* A character device has taken the text. There only the size is corrected. */
+/* A character device has taken the text, and cannot be cut. There only the size is corrected. */
 void trace_file_take_back(struct trace_file *k, off_t size)
 {
 	k->size = size;
-	if (S_ISREG(k->is.st_mode))
-		cut_rest(k);
+	cut_rest(k);
 }
 
 /* It reads the name alone, which stays as it is. */

@@ -79,6 +79,13 @@ def targets():
         leave(at)
     same("it was not emptied", open(file).read(), "precious")
     step("a file that was not there is not there", not os.path.exists(os.path.join(home, "new")))
+    for to in ("unmade", "none/unmade"):
+        nothing = os.path.join(home, "to-" + to.replace("/", "-"))
+        os.symlink(to, nothing)
+        for words in (["--trace", nothing, "--answers", "/nowhere/y"], ["--answers", nothing, "--trace", "/nowhere/x"]):
+            got = refused([at, *words])[0], os.path.islink(nothing)
+            same("a link to %s, which was not there: it stays" % to, got, (2, True))
+    same("what is made by it", stat.S_IMODE(os.stat(os.path.join(home, "unmade")).st_mode), 0o600)
 
 
 def modes():

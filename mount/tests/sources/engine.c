@@ -100,6 +100,9 @@ static void operations(void)
 	is("it is undone", engine_depth() == depth && engine_has_group("/b") == -ENOENT && engine_has_group("/a") == 0);
 	is("and its lines are gone", trace.size == kept && is_whole(&trace));
 	is("with their answers", answers.size == answered && is_whole(&answers));
+	is("a wrong line is kept too", engine_line("mkdir b") == -EINVAL && trace.size > kept && answers.size > answered);
+	trace_file_take_back(&trace, kept);
+	trace_file_take_back(&answers, answered);
 	is("one that changes nothing",
 		engine_begin() == 0 && engine_line("mkdir /a") == -EEXIST && engine_finish(-EEXIST) == -EEXIST);
 	is("keeps its line, as any refused one", trace.size > kept && answers.size > answered && engine_depth() == depth);
@@ -217,6 +220,16 @@ static void *interrupt(void *unused)
 	return unused;
 }
 
+static bool takes_nothing;
+
+/* In place of the C library's. */
+ssize_t write(int fd, const void *bytes, size_t size)
+{
+	static ssize_t (*next)(int, const void *, size_t);
+	*(void **)&next = dlsym(RTLD_NEXT, "write");
+	return takes_nothing ? 0 : next(fd, bytes, size);
+}
+
 /* A device of which the test decides what it takes: it is opened as one, and replaced by a pipe. */
 static void devices(void)
 {
@@ -231,6 +244,10 @@ static void devices(void)
 	fill();
 	is("one that takes nothing", trace_file_add(&file, "x\n", 2) == -EAGAIN && file.size == 0);
 	empty();
+	takes_nothing = true;
+	errno = ENOENT;
+	is("nor says why", trace_file_add(&file, "x\n", 2) == -EIO && file.size == 0);
+	takes_nothing = false;
 	is("takes a text once it has room", trace_file_add(&file, "x\n", 2) == 0 && file.size == 2 && empty() == 2);
 	trace_file_take_back(&file, 0);
 	is("of which the size alone is taken back", file.size == 0);
@@ -257,6 +274,7 @@ static void rest(void)
 	char name[256];
 	snprintf(name, sizeof name, "%.240s.rest", names[0]);
 	is("a file", trace_file_open(&file, name) && trace_file_add(&file, "line\n", 5) == 0);
+	is("which no program inherits", fcntl(file.fd, F_GETFD) == FD_CLOEXEC);
 	int own = dup(file.fd), other = open(name, O_RDONLY);
 	replace(&file, other);
 	is("a text that it does not take", trace_file_add(&file, "half\n", 5) == -EBADF && file.size == 5);
