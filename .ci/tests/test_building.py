@@ -337,7 +337,11 @@ class OfMount(MadeUp):
         -I/fuse -ffile-prefix-map=TOP=. -ITOP/bindings/c -ITOP/mount/../bindings/c -ITOP/mount/src""".split()
         self.write("made/makhloeum", "the program", 0o755)
         self.write("mount/out/makhloeum", "older")
-        compiled, linked = self.compiled(CFLAGS_MORE="-DMORE")
+        sort = os.readlink(f"{self.top}/tools/sort")
+        os.unlink(f"{self.top}/tools/sort")
+        self.write("tools/sort", f'#!/bin/sh\necho "$LC_ALL" >>"$TOP/languages"\nexec {sort} "$@"\n', 0o755)
+        compiled, linked = self.compiled(CFLAGS_MORE="-DMORE", LC_ALL="C.UTF-8")
+        self.assertEqual(self.read("languages"), "C\nC\n")
         objects = ("a-tree.o", "b-tree.o", "main.o", "number_parser.o")
         wanted = dict(zip((*(f"TOP/{source}" for source in SOURCES), f"TOP/mount/../{PARSER}"), objects))
         self.assertEqual(compiled, {each: ["cc", *flags, "-c", each, "-o", f"WORK/{wanted[each]}"] for each in wanted})
@@ -348,8 +352,9 @@ class OfMount(MadeUp):
     def test_objects_are_used_again_until_a_source_or_a_header_changes(self):
         os.mkdir(f"{self.top}/other")
         os.rename(f"{self.top}/{HEADERS[1]}", f"{self.top}/other/makhloeum.h")
+        os.rename(f"{self.top}/bindings/out/libmakhloeum.a", f"{self.top}/other/its.a")
         paths = (*SOURCES, PARSER, HEADERS[0], "other/makhloeum.h", HEADERS[2])
-        more = {"OBJECTS": f"{self.top}/objects", "MAKHLOEUM_HEADER": "other", "OUT": f"{self.top}/out"}
+        more = {"OBJECTS": "objects", "MAKHLOEUM_HEADER": "other", "MAKHLOEUM_LIB": "other/its.a", "OUT": "out"}
         every = {*(f"TOP/{source}" for source in SOURCES), f"TOP/mount/../{PARSER}"}
         self.assertEqual(set(self.compiled(**more)[0]), every)
         self.assertEqual(os.listdir(f"{self.top}/out"), ["makhloeum"])
@@ -362,6 +367,7 @@ class OfMount(MadeUp):
             wanted = every if changed.endswith(".h") else {each for each in every if each.endswith(changed)}
             self.assertEqual(set(compiled), wanted, changed)
             self.assertEqual([sum(word.endswith(".o") for word in words) for words in linked], [4])
+            self.assertIn("TOP/other/its.a", linked[0])
         os.unlink(f"{self.top}/objects/b-tree.o")
         os.utime(f"{self.top}/{HEADERS[2]}", (1000, 1000))
         self.assertEqual(list(self.compiled(**more)[0]), [f"TOP/{SOURCES[1]}"])
