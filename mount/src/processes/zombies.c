@@ -181,12 +181,11 @@ static int sweep(bool looks_at_all)
 	struct epoll_event waited[TAKEN];
 	int n, fault = 0;
 	do {
+		/* each is a zombie: who leaves the list leaves the set */
 		n = hangups < 0 ? 0 : epoll_wait(hangups, waited, TAKEN, 0);
-		for (int i = 0; i < n; i++) {
-			size_t place = place_of((pid_t)waited[i].data.u32);
-			if (place && (fault = let_exit(place)))
+		for (int i = 0; i < n; i++)
+			if ((fault = let_exit(place_of((pid_t)waited[i].data.u32))))
 				return fault;
-		}
 	} while (n == TAKEN); /* a full answer may not be all */
 	/* From the end, since a drop moves the last one. */
 	for (size_t place = count; gone_count && place > 0; place--)

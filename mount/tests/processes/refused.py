@@ -390,43 +390,62 @@ def forks_slowly(starts, told):
         os.waitpid(pid, 0)
 
 
+class Slow:
+    """A process whose forks take long."""
+
+    def __init__(self, at):
+        (r, self.starts), (self.told, w) = os.pipe(), os.pipe()
+        self.pid = os.fork()
+        if self.pid == 0:
+            into(at)
+            forks_slowly(r, w)
+
+    def goes_on(self):
+        os.write(self.starts, b"x")
+
+    def says(self):
+        return os.read(self.told, 20).strip().decode()
+
+    def ends(self):
+        os.kill(self.pid, signal.SIGKILL)
+        os.waitpid(self.pid, 0)
+
+
 def crossed():
-    """A fork that only a child that is being made in another group refuses, by the limit of a group above both: it is an event there."""
+    """A fork that only two children that are being made in another group refuse, by the limit of a group above: it is an event there."""
     for g in ("/p", "/p/a", "/p/b"):
         os.mkdir(AT + g)
-    (r, starts), (told, w) = os.pipe(), os.pipe()
-    slow = os.fork()
-    if slow == 0:
-        into("/p/a")
-        forks_slowly(r, w)
+    both = Slow("/p/a"), Slow("/p/a")
     into("/p/b")
-    write(AT + "/p/pids.max", b"3")
-    says = lambda: os.read(told, 20).strip().decode()
+    write(AT + "/p/pids.max", b"5")
     reached, turn, refused, lines = 0, 0, 0, set()
     while reached < 3 and turn < 600:
-        os.write(starts, b"x")
-        says()
+        for slow in both:
+            slow.goes_on()
+        for slow in both:
+            slow.says()
         time.sleep(turn % 20 * 0.002)
         own, newest = fork(), read(AT + "/.makhloeum/newest")
-        is_being_made = len(read(AT + "/p/a/cgroup.procs").split()) == 1
-        other = says()
-        refused += [own, other].count("EAGAIN")
+        are_being_made = len(read(AT + "/p/a/cgroup.procs").split()) == 2
+        others = [slow.says() for slow in both]
+        refused += [own, *others].count("EAGAIN")
         turn += 1
-        if (own, is_being_made, other) == ("EAGAIN", True, "ok"):
+        if (own, are_being_made, others) == ("EAGAIN", True, ["ok", "ok"]):
             reached += 1
             lines.add(newest)
-        if other == "ok":
-            os.write(starts, b"x")
+        for slow, other in zip(both, others):
+            if other == "ok":
+                slow.goes_on()
     step("there were such forks, in %d turns" % turn, reached == 3, reached)
-    fork_of = b"fork %d %%d\n" % os.getpid()
-    wanted = fork_of % 4194303 + fork_of % 4194302 + b"exit 4194303\n"
-    same("its lines are one operation: a process takes the place of the other child, and leaves", lines, {wanted})
-    step("and takes no place", until(lambda: read(AT + "/p/pids.current") == b"2\n"))
-    os.kill(slow, signal.SIGKILL)
-    os.waitpid(slow, 0)
+    wanted = b"".join(b"fork %d %d\n" % (os.getpid(), number) for number in (4194303, 4194302, 4194301))
+    wanted += b"exit 4194302\nexit 4194303\n"
+    same("its lines are one operation: two processes take the places of the children, and leave", lines, {wanted})
+    step("and take no place", until(lambda: read(AT + "/p/pids.current") == b"3\n"))
+    for slow in both:
+        slow.ends()
     same("each is one event", read(AT + "/p/pids.events"), b"max %d\n" % refused)
     same("of the limit's group alone", read(AT + "/p/b/pids.events"), b"max 0\n")
-    same("then there is room for two", places(""), 2)
+    same("then there is room for four", places(""), 4)
 
 
 INSIDE = {births: [], others: [], crowd: [], orphaned: [], unused: ["--control"], told: [], crossed: ["--control"]}

@@ -12,7 +12,7 @@ import threading
 import time
 
 sys.path.insert(0, os.path.dirname(os.path.dirname(os.path.realpath(__file__))))
-from support import AT, PATIENCE, PROGRAM, Beside, Mount
+from support import AT, PATIENCE, PROGRAM, Beside, Mount, descriptor_places
 from support import error_of, finish, inside, into, own_of, read, same, server_and_helper, spared, status_within, step
 from support import tracer, until, write
 
@@ -337,7 +337,25 @@ def companion():
     same("another has its number", int(asks.recv(16)), found[0])
 
 
-INSIDE = (processes, threads, again, allowed, unseen, killing, unheard, companion)
+def taken():
+    """A process ends, and one that is none of the run has its number before the server hears of the end: then nobody counts."""
+    server = server_and_helper(tracer())[0]
+    os.mkdir(AT + "/a")
+    before, wrong = descriptor_places(server), []
+    for _ in range(before + 10):
+        pid = child("/a")
+        os.kill(server, signal.SIGSTOP)
+        end(pid)
+        asks.send(b"stranger %d" % pid)
+        other = int(asks.recv(16))
+        os.kill(server, signal.SIGCONT)
+        if (other, count("/a")) != (pid, 0):
+            wrong.append((other, pid, count("/a")))
+    same("another has the number of each, and nobody counts", wrong, [])
+    same("the server keeps no descriptor of the others", descriptor_places(server), before)
+
+
+INSIDE = (processes, threads, again, allowed, unseen, killing, unheard, taken, companion)
 WITH_HELD_KILL = (killing, unheard)
 inside(*INSIDE)
 
@@ -378,7 +396,8 @@ def run(test):
     same("%s: its status" % test.__name__, status_within(p, 6 * PATIENCE), 0)
     if test is companion:
         same("who had a number of makhloeum lives", spared(*strangers), [True])
-        end(strangers[0])
+    for pid in strangers:
+        end(pid)
 
 
 def adopted():
