@@ -45,21 +45,16 @@ static int open_file(int root, const char *path)
 	return directory < 0 ? -1 : beneath_open(directory, name, O_PATH | O_NOFOLLOW);
 }
 
-/* What the program mounts or makes there is never reached: the walk starts at the root of the
-   mount and leaves it nowhere. The descriptor that was checked is the file whose time is set. The
-   server leaves out this time, and inotify reports the call only as a modification, since it sets
-   no other time. False: try again. By a path of /proc, since futimens takes no descriptor with
-   O_PATH. */
-static bool touch_once(int root, const struct mount_id *system, const char *path)
+/* What the program mounts or makes there is never reached: the walk starts at the root of the mount and leaves it nowhere. The server
+   leaves out this time, and inotify reports the call only as a modification, since it sets no other time. False: try again. By a path of
+   /proc, since futimens takes no descriptor with O_PATH. */
+static bool touch_once(int root, const char *path)
 {
 	static const struct timespec times[2] = { { .tv_nsec = UTIME_OMIT }, { .tv_sec = -MARK } };
 	char link[32];
-	struct mount_id found;
 	cleanup_fd int file = open_file(root, path);
 	if (file < 0)
 		return errno != ENOMEM; /* the group may be gone */
-	if (!beneath_identify(file, &found) || !beneath_is_same_system(&found, system))
-		return true;
 	snprintf(link, sizeof link, "self/fd/%d", file);
 	return utimensat(AT_FDCWD, link, times, 0) == 0 || errno != ENOMEM;
 }
@@ -69,7 +64,7 @@ static void touch(const struct mounted *m, const char *path)
 {
 	cleanup_fd int found = m->root < 0 ? look_up(m) : -1;
 	int root = m->root < 0 ? found : m->root;
-	for (int i = 0; root >= 0 && i < TRIES && !touch_once(root, &m->is, path); i++)
+	for (int i = 0; root >= 0 && i < TRIES && !touch_once(root, path); i++)
 		usleep(10000); /* there was no memory: nothing tells when there is some */
 }
 
@@ -139,7 +134,7 @@ static void live(int from, const char *mountpoint, int root, pid_t parent, const
 	/* The first child ends at once. The second one gets another parent, which waits for it. */
 	if (root < 0 && fork())
 		_exit(0);
-	if (root >= 0 && (!own_processes_die_with(parent) || !proc_status_enter() || !beneath_identify(root, &m.is)))
+	if (root >= 0 && (!own_processes_die_with(parent) || !proc_status_enter()))
 		_exit(1);
 	if (root < 0 && chdir("/proc") && chdir("/")) /* without /proc it can only unmount */
 		_exit(1);

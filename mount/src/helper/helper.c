@@ -16,9 +16,8 @@
 #include <sys/socket.h>
 #include <unistd.h>
 
-/* READS: how many answers of the helper the program may keep waiting before others are not asked
-   for. OPEN_AT_FIRST: descriptors below this number may be the supervisor's. */
-enum { READS = 512, OPEN_AT_FIRST = 64 };
+/* READS: how many answers of the helper the program may keep waiting before others are not asked for. */
+enum { READS = 512 };
 
 static int to_helper = -1;
 static pid_t process = -1;
@@ -175,10 +174,14 @@ static void serve(int listener, int end, pid_t program)
 	};
 	own_processes_raise_files(); /* each call that waits has a few */
 	own_processes_raise_sizes(); /* it writes texts of /proc, which are no files for the caller's limit */
-	/* other descriptors of the supervisor would keep the mount and the other ends of its pipes open */
-	for (int fd = STDERR_FILENO + 1; fd < OPEN_AT_FIRST; fd++)
-		if (fd != listener && fd != end && fd != mount_root_descriptor() && fd != table_channel_socket())
+	/* Other descriptors of the supervisor would keep the mount and the other ends of its pipes open. These four are there. */
+	int fd = STDERR_FILENO + 1;
+	for (int left = 4; left > 0; fd++)
+		if (fd == listener || fd == end || fd == mount_root_descriptor() || fd == table_channel_socket())
+			left--;
+		else
 			close(fd); /* it fails where there is none */
+	close_range((unsigned)fd, ~0U, 0);
 	int fault = share_root(program) && mount_root_find_hidden() ? 0 : errno;
 	if (fault == 0) {
 		path_lookup_begin(program);

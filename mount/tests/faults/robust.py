@@ -317,13 +317,23 @@ def covered():
     server = subprocess.Popen([PROGRAM, "mount", at, "--foreground"])
     step("it is mounted", until(lambda: os.path.ismount(at)))
     companions = companions_of(server.pid)
+    os.mkdir(at + "/g")
+    events, procs = (
+        os.open(at + "/g/cgroup." + name, how) for name, how in (("events", os.O_RDONLY), ("procs", os.O_WRONLY))
+    )
     same("a mount over it", libc.mount(b"none", at.encode(), b"tmpfs", 0, None), 0)
-    with open(at + "/mine", "w") as f:
+    os.mkdir(at + "/g")
+    mine = at + "/g/cgroup.events"
+    with open(mine, "w") as f:
         f.write("x")
+    os.utime(mine, (7, 7))
+    os.write(procs, b"1\n")
+    same("a change below it", os.pread(events, 99, 0), b"populated 1\nfrozen 0\n")
     server.kill()
     server.wait()
     step("its companion ends", len(companions) == 1 and until(lambda: not is_alive(companions[0])))
-    same("what is over it stays", os.listdir(at), ["mine"])
+    same("what is over it stays", (os.listdir(at), os.listdir(at + "/g")), (["g"], ["cgroup.events"]))
+    same("and has its time", os.stat(mine).st_mtime, 7)
 
 
 def unaided():

@@ -112,6 +112,7 @@ def kept(*options):
     """What the processes of a run have open: none that only its beginning used, the helper and the companion no descriptor of the caller,
     and no two of them the same socket, but for the one by which the supervisor's helper passes tables."""
     passed = sum((os.pipe() for _ in range(9)), ())
+    passed += tuple(os.dup2(passed[0], fd) for fd in range(31, 91, 2))  # so that its own have others between them
     trace, answers = (os.path.join(os.environ["TMPDIR"], "%s%d" % (name, os.getpid())) for name in ("trace", "answers"))
     words = [PROGRAM, "run", "--keep", "io", "--trace", trace, "--answers", answers, *options]
     words += ["sh", "-c", "echo; exec cat"]
