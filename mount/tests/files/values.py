@@ -426,6 +426,7 @@ def of_disks():
         ("io.weight", "7:1 10000", "ok", "default 100\n7:1 10000\n"),
         ("io.weight", "7:1 x", "EINVAL", "default 100\n7:1 10000\n"),
         ("io.weight", "7:1 ", "EINVAL", "default 100\n7:1 10000\n"),
+        ("io.weight", "7:1 defaulx", "EINVAL", "default 100\n7:1 10000\n"),
         ("io.weight", "default 5", "ok", "default 5\n7:1 10000\n"),
         ("io.weight", "8:0\t1", "ok", "default 5\n7:1 10000\n8:0 1\n"),
         ("io.weight", "7:1 default", "ok", "default 5\n8:0 1\n"),

@@ -120,6 +120,11 @@ def beside():
     for pid in (dead[3], dead[0], dead[1]):
         os.waitpid(pid, 0)
     same("all are waited for", (seen("/p/b"), seen("/p/c"), seen("/p")), (EMPTY, EMPTY, ([lives], [lives], 1, 1)))
+    write(AT + "/p/c/cgroup.procs", b"%d" % lives)
+    later = zombie("/p/c")
+    same("a group of one who lives and of a later zombie stays", error_of(os.rmdir, AT + "/p/c"), "EBUSY")
+    same("with both", seen("/p/c"), ([lives], [lives], 2, 1))
+    os.waitpid(later, 0)
     end(lives)
     same("and who lived", seen("/p"), EMPTY)
 
