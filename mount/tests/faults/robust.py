@@ -389,6 +389,18 @@ def parts():
                 os.close(r)
 
 
+def stopped():
+    """The supervisor of a run is killed: each of its parts ends, also one that is stopped, which hears of nothing."""
+    p = subprocess.Popen([PROGRAM, "run", "sleep", "600"])
+    step("all parts are there", until(lambda: len(own_of(p.pid)) == 3 and len(server_and_helper(p.pid)) == 2))
+    own = own_of(p.pid)
+    for pid in own:
+        os.kill(pid, signal.SIGSTOP)
+    p.kill()
+    p.wait()
+    step("all of them end", until(lambda: not any(map(is_alive, own))))
+
+
 def errors_of(*calls):
     """The name of the errno of each of these calls of the C library, or "ok"."""
     return ["ok" if call() >= 0 else errno.errorcode[ctypes.get_errno()] for call in calls]
@@ -505,6 +517,7 @@ for test, args in (
     (over, ()),
     (unheard, ()),
     (parts, ()),
+    (stopped, ()),
     (let_go, ()),
 ):
     test(*args)

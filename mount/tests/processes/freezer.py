@@ -501,6 +501,27 @@ def again():
     one.end()
 
 
+def partly():
+    """A group is frozen once each process has stopped, in whichever group below: one more comes while the supervisor is stopped."""
+    for g in ("/q", "/p", "/p/a", "/p/b", "/p/c"):
+        os.mkdir(AT + g)
+    one, supervisor = Counter("/q"), tracer()
+    others = [Counter("/p/" + g) for g in "ac"]
+    freeze("/p", 1)
+    becomes("all are frozen", "/p", FROZEN)
+    for g in "abc":
+        os.kill(supervisor, signal.SIGSTOP)
+        until(lambda: state(supervisor) == "T")
+        write(AT + "/p/%s/cgroup.procs" % g, b"%d\n" % one.process.pid)
+        same("one more is in /p/%s, and has not stopped" % g, frozen(AT + "/p"), THAWED)
+        os.kill(supervisor, signal.SIGCONT)
+        becomes("then it has", "/p", FROZEN)
+        write(AT + "/q/cgroup.procs", b"%d\n" % one.process.pid)
+    freeze("/p", 0)
+    for each in (one, *others):
+        each.end()
+
+
 def signals():
     """The program's job control works together with the freezer."""
     os.mkdir(AT + "/a")
@@ -660,6 +681,7 @@ INSIDE = (
     at_once,
     executed,
     again,
+    partly,
     signals,
     itself,
     first,
