@@ -44,6 +44,7 @@ class Assumed(MadeUp):
     def test_a_page_that_was_written_is_the_list(self):
         self.said("--write")
         page = self.read("docs/PROVED.md")
+        self.assertIn("-->\n\n| From | Functions | Reached by |\n|---|---|---|\n| `libc` |", page)
         for row in (
             "| `libc` | `read`, `send` | each |",
             "| `os` | `rattle_errno` | each |",
@@ -60,21 +61,34 @@ class Assumed(MadeUp):
         self.checks["cgshell"] = SAID.format(" threads=" + ",".join(names))
         self.said("--write")
         rows = [row for row in self.read("docs/PROVED.md").split("\n") if "function_" in row]
-        self.assertEqual(len(rows), 3)
-        widest = self.program.WIDTH + len(", ")
-        self.assertTrue(all(len(cell.strip()) <= widest for row in rows for cell in row.split("|")))
+        # a function takes 13 characters, and 15 after another one
+        self.assertEqual([row.count("function_") for row in rows], [11, 11, 8])
         self.said()
+        # the last of these fits exactly, and one character more doesn't
+        for length, cells in ((85, 1), (86, 2)):
+            lists = {"one": {("libc", "a" * 83), ("libc", "b" * (length - 2))}}
+            self.assertEqual(self.program.rows_of(lists).count("| `libc` |"), cells, length)
 
     def test_more_and_fewer_functions_than_the_page_has(self):
         self.said("--write")
         self.checks["cgshell"] = SAID.format(" threads=malloc").replace("libc::read   reached", "libc::read")
         said = self.said(status=1)
+        self.assertEqual(said.split("\n")[-2].split(": ")[1:], [".ci/assumed --write changes docs/PROVED.md"])
         self.assertIn("cgshell: malloc (threads) isn't in docs/PROVED.md\n", said)
         self.assertIn("cgshell: read (libc) is in vain in docs/PROVED.md\n", said)
         self.assertNotIn("cgreplay: read", said)
 
     def test_an_empty_page_has_none(self):
-        self.assertIn("cgreplay: read (libc) isn't in docs/PROVED.md\n", self.said(status=1))
+        for page in (PAGE, "# Page\n"):
+            self.write("docs/PROVED.md", page)
+            said = self.said(status=1)
+            # in order, those of cgshell alone too
+            wanted = [
+                f"cgshell: {name} isn't in docs/PROVED.md"
+                for name in ("read (libc)", "send (libc)", "rattle_errno (os)")
+            ]
+            self.assertEqual([line for line in said.split("\n") if line.startswith("cgshell: ")][:-1], wanted)
+            self.assertIn("cgreplay: read (libc) isn't in docs/PROVED.md\n", said)
 
     def test_what_a_build_of_the_library_said(self):
         self.said("--write")

@@ -7,7 +7,7 @@ sys.path.insert(0, os.path.join(os.path.dirname(os.path.realpath(__file__)), "..
 from lookup.cited import faults_of_gone, faults_of_held  # noqa: E402
 from lookup.clauses import Crates  # noqa: E402
 from lookup.comments import faults_of_comments, faults_of_subjects  # noqa: E402
-from lookup.unproved import faults_of_unproved  # noqa: E402
+from lookup.unproved import faults_of_unproved, in_python, split  # noqa: E402
 
 CRATES = "# Crates.\nlow: memchr\nhigh staticlib: low\n"
 TEXTS = {
@@ -80,6 +80,8 @@ class Comments(unittest.TestCase):
     def test_a_head_that_lists_another_file_than_there_is(self):
         path = "crates/low/src/lib.rt"
         one = ["crates/low/src/lib.rt: there is no specs/Adds.antt"]
+        again = TEXTS[path] + "//!\n//! More of `specs/` follows.\n"
+        self.assertEqual(self.faults(path, again.replace("- `Sum`", "- `Adds`")), one, "behind the first mention")
         self.assertEqual(self.faults(path, TEXTS[path].replace("- `Sum`", "- `Adds`")), one)
         self.assertEqual(self.faults(path, TEXTS[path].replace("(`Sum`)", "(`Adds`)")), one)
 
@@ -109,6 +111,13 @@ class Comments(unittest.TestCase):
                 [fault.split(", which")[0] for fault in faults],
                 [f"{path}: one: {fault}", f"{path}: two: breaks Sum.Few"],
             )
+
+    def test_only_sources_have_comments_and_items(self):
+        path = "crates/low_tests/data/sums.cases"
+        self.assertEqual(self.faults(path, "# shows: Sum.Adds\n// As gone_word has it.\n"), [])
+        texts = {**TEXTS, path: "# shows: Sum.Adds\nof_cases\n"}
+        texts["crates/low/src/sum.rt"] += "// Not of_cases.\n"
+        self.assertEqual([*faults_of_comments(texts, CRATES)], ["crates/low/src/sum.rt:4: of_cases is in no crate"])
 
     def test_cases_without_a_name(self):
         path = "crates/low_tests/data/sums.cases"
@@ -181,6 +190,15 @@ class Unproved(unittest.TestCase):
         wanted = [f"f.py:2: {name} is nowhere but in comments" for name in (*nowhere, "of_part")]
         self.assertEqual(sorted(found), sorted([*wanted, "e.py:1: of_comment is nowhere but in comments"]))
 
+    def test_comments_and_the_rest_of_python(self):
+        text = '#!/bin/python3\n"""of_module"""\nclass A:\n    """of_class"""\n\n    def f(self):  # of_line\n        """of_method\n'
+        text += '        more."""\n        return "of_text"  # last'
+        comments, rest = split(text, in_python(text))
+        of_method = '"""of_method\n        more."""\n'
+        wanted = [(2, '"""of_module"""\n'), (4, '"""of_class"""\n'), (6, "# of_line"), (7, of_method), (9, "# last")]
+        self.assertEqual(comments, wanted)
+        self.assertEqual(rest, '#!/bin/python3\nclass A:\n    \n    def f(self):  \n                return "of_text"  ')
+
     def test_comments_of_crates_are_looked_at_elsewhere(self):
         texts = {
             "crates/low_one/tool.py": "# As old_thing has it.\n",
@@ -209,6 +227,7 @@ class Held(unittest.TestCase):
         for line in (
             "`Sum.Adds` in `Sum.antt`, by `Sum::add` (`kept`) and `sums::sums_add_up`",
             "`Sum::add` (`low`), `Sum::Variant`, `Other::add`, `Other.add`",
+            "`Sum::add` (`kept` and `Adds`), `Sum::take` (`body`), which has no contract",
             "`Sum::own`, which is private",
         ):
             with self.subTest(line):

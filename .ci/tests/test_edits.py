@@ -268,7 +268,10 @@ class Edits(MadeUp):
             (f"# Edits.\n{a}", f"its first line is not: {HEAD}"),
             (f"{HEAD}\n", "it has no edit"),
             (f"{HEAD}\n# more\n{a}", "something is between its first line and its first edit"),
-            (f"{HEAD}\n{block.format('A')}", "the name A is not made of lower-case words and underscores"),
+            *(
+                (f"{HEAD}\n{block.format(name)}", f"the name {name} is not made of lower-case words and underscores")
+                for name in ("A", "a-b", "a_", "a b")
+            ),
             (f"{HEAD}\n{b}{a}", sorted_names),
             (f"{HEAD}\n{a}{a}", sorted_names),
             (f"{HEAD}\n{a}{b[1:]}", blank_line),

@@ -11,7 +11,7 @@ assumed = load(".ci/assumed")
 # It logs its words, and proves three functions: one at once, one that takes processor time, one at once.
 RATTLE = """#!/bin/bash
 printf '%%s\\n' "$PWD" "$@" >%s/calls
-[ ! -e %s/fails ] || { echo "not proved: a hole"; exit 1; }
+[ ! -e %s/fails ] || { echo "not proved: a hole" >&2; exit 1; }
 while [ $# -gt 0 ]; do
   case $1 in -o) echo built >"$2" ;; --progress) steps=yes ;; esac
   shift
@@ -104,6 +104,9 @@ class OverLibraries(MadeUp):
                 self.assertEqual(assumed.check(crate), "logic=proved functions=3\n")
             called = [f"{self.top}/crates/{crate}", "check", *self.words(crate), *kind, "--list-axioms", "--jobs", "1"]
             self.assertEqual(self.read("calls").splitlines(), called)
+        self.write("fails", "")
+        with mock.patch.object(assumed, "ROOT", self.top):
+            self.assertEqual(assumed.check("program"), "not proved: a hole\n")
 
     def test_a_library_that_is_not_proved_is_no_library(self):
         self.write("fails", "")

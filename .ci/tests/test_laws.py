@@ -44,7 +44,7 @@ class Laws(MadeUp):
 
     def setUp(self):
         super().setUp()
-        self.write("crates.txt", "# lowest first\nlow:\nlow_laws: low\nlow_tests: low\ntest_desk: low\n")
+        self.write("crates.txt", "# lowest first\n\nlow:\nlow_laws: low\nlow_tests: low\ntest_desk: low\n")
         self.write("crates/low/specs/Lib.antt", "pub mod Count\n")
         self.write("crates/low/specs/Count.antt", SPECS)
         self.write("crates/low/src/desk.rt", DESK)

@@ -366,10 +366,10 @@ class Receivers(unittest.TestCase):
             self.assertEqual(receivers.split_type(text), (name, arguments), text)
 
     def test_what_stands_behind_a_function(self):
-        text = "fn f<'a, A: low::Allocator + Clone, const N : usize, B>(&self, mut a: &'a B, at : C<D, E>) -> F<A> where A: G {\n"
+        text = "fn f<'a, A: low::Allocator + Clone, const N : usize, B>(&self, mut a: &'a B, at : low::C<D, E>) -> F<A> where A: G {\n"
         found = receivers.Signature(text, 3)
         self.assertEqual(found.generics, {"'a": [], "A": ["Allocator", "Clone"], "N": ["usize"], "B": []})
-        self.assertEqual((found.takes, found.returns), ({"a": "&'a B", "at": "C<D, E>"}, "F<A>"))
+        self.assertEqual((found.takes, found.returns), ({"a": "&'a B", "at": "low::C<D, E>"}, "F<A>"))
         for text, returns in (
             ("fn f() {\n", None),
             ("fn f() -> A;\n", "A"),
@@ -448,6 +448,17 @@ class ObjectsOfOtherLanguages(unittest.TestCase):
         of = objects.Objects({**self.TEXTS, "c.py": text})
         self.assertEqual(of.calls("c.py", "peak", "Tree"), {3: False, 5: True})
 
+    def test_what_an_earlier_function_bound_is_another(self):
+        text = "class C:\n    def f(self):\n        x = Tree()\n        x.peak()\n\n    def g(self, x):\n        x.peak()\n"
+        text += "\ndef h(x: Tree):\n    x.peak()\n\nasync def i(x):\n    x.peak()\n"
+        found = objects.Objects({**self.TEXTS, "c.py": text}).calls("c.py", "peak", "Tree")
+        self.assertEqual(found, {4: True, 7: None, 10: True, 13: None})
+
+    def test_the_result_of_a_function_that_takes_what_is_called(self):
+        more = "def grown(a=call(1), b=call()) -> Tree:\n    pass\n"
+        texts = {"a.mjs": "", **self.TEXTS, "c.py": more + "def f():\n    x = grown(1)\n    x.peak()\n"}
+        self.assertEqual(objects.Objects(texts).calls("c.py", "peak", "Tree"), {5: True})
+
     def test_a_method_of_one_line(self):
         text = (
             "class Oak:\n    def peak(self): return self.peak()\nclass Elm:\n    def peak(self): return self.peak()\n"
@@ -479,12 +490,15 @@ class ObjectsOfOtherLanguages(unittest.TestCase):
 
     def test_the_page(self):
         """A method of the class itself, and one of a value that is made anew."""
-        text = "export class Rows {\n  show() {\n    this.show();\n  }\n\n  static async peak() {\n    this.peak();\n  }\n}\n\n"
+        text = "export class Rows {\n  show() {\n    this.show();\n  }\n\n  static async peak() {\n    this.peak();\n  }\n\n"
+        text += "  static make() {\n    this.make();\n  }\n}\n\n"
         text += "export function f(other) {\n  const rows = new Rows();\n  rows.show();\n  other.show();\n  new Rows().show();\n}\n"
         of = objects.Objects({"a.mjs": text})
-        self.assertEqual(of.calls("a.mjs", "show", "Rows"), {3: True, 13: True, 14: None, 15: True})
-        self.assertEqual(of.calls("a.mjs", "show", "Plot"), {3: False, 13: False, 14: None, 15: False})
+        self.assertEqual(of.calls("a.mjs", "show", "Rows"), {3: True, 17: True, 18: None, 19: True})
+        self.assertEqual(of.calls("a.mjs", "show", "Plot"), {3: False, 17: False, 18: None, 19: False})
         self.assertEqual(of.calls("a.mjs", "peak", "Rows"), {7: True})
+        self.assertEqual(of.calls("a.mjs", "make", "Rows"), {11: True})
+        self.assertEqual(of.definer("Rows", "make"), "Rows")
 
     def test_each_way_to_bind_a_name(self):
         for line, answer in (
@@ -497,6 +511,8 @@ class ObjectsOfOtherLanguages(unittest.TestCase):
             ("x = a.opened()", True),
             ("x = made", None),
             ("xx = Tree(1)", None),
+            ("xx: Tree = made", None),
+            ("with opened() as xx:", None),
         ):
             texts = {**self.TEXTS, "c.py": f"def f():\n    {line}\n    x.peak()\n"}
             self.assertEqual(objects.Objects(texts).calls("c.py", "peak", "Tree"), {3: answer}, line)
@@ -631,7 +647,8 @@ class Edits(unittest.TestCase):
         self.assertEqual([edit and edit.name for edit in found], [None, None, "y", "y", "y", "z", "z", "z"])
         self.assertEqual([edit.text for edit in dict.fromkeys(found[2:])], ["old: 1\n", "old: 9\nnew: 1\n"])
         self.assertEqual(edits.edit_at("crates/a/must-fail/x.edit", "old: 1\n", 1).name, "x")
-        self.assertIsNone(edits.edit_at("crates/a/src/lib.rt", text, 3))
+        for path in ("crates/a/src/lib.rt", "crates/a/must-fail/x.edit.orig", "crates/a/must-fail-more.edits~"):
+            self.assertIsNone(edits.edit_at(path, text, 3), path)
 
 
 class Functions(unittest.TestCase):
@@ -639,6 +656,7 @@ class Functions(unittest.TestCase):
         text = (
             "fn free() {\n    1\n}\n\nimpl<A: Allocator> Tree<A> {\n    fn new() {\n    }\n}\n\nfn again() {\n}\n"
             "pub trait Walk {\n    fn step();\n}\nimpl Walk for Tree {\n    fn step() {\n    }\n}\nmod inner {\n    fn more() {\n    }\n}\n"
+            "impl Marker for Tree {}\nfn last() {\n"
         )
         wanted = {
             1: "free",
@@ -649,6 +667,7 @@ class Functions(unittest.TestCase):
             13: "Walk::step",
             16: "Tree::step",
             20: "more",
+            24: "last",
         }
         found = code.functions_of(text)
         self.assertEqual({line: found[line] for line in wanted}, wanted)
@@ -691,6 +710,8 @@ class Parts(unittest.TestCase):
             ("crates/a/specs/Sum.antt", "", "specs"),
             ("crates/a/src/sum.rt", "    ensures same { result ≡ 1 }", "clauses"),
             ("crates/a/src/sum.rt", "    requires few { true }", "clauses"),
+            ("crates/a/src/sum.rt", "    ensures few { true }", "clauses"),
+            ("crates/a/src/sum.rt", "    ensured(1);", "code"),
             ("crates/a/src/sum.rt", "        → count s ≡ 1 }", "clauses"),
             ("crates/a/src/sum.rt", "ghost use Rattle.a.specs.Sum.{Adds};", "clauses"),
             ("crates/a/src/sum.rt", "    let x = 1;", "code"),
@@ -706,6 +727,7 @@ class Screens(unittest.TestCase):
         wanted = [it for name in "abcd" for it in (name, f"{name}/y", f"{name}/z")]
         found = folders.folders_of(files)
         self.assertEqual(found, [*wanted, "mount", "mount/src", "mount/src/a", "mount/src/b"])
+        self.assertEqual(folders.folders_of(["mount/src/a/b/x.c"]), ["mount", "mount/src", "mount/src/a"])
 
     def test_files_are_counted_by_folders_of_a_depth(self):
         hits = {path: [3, 8] for path in ("a/b/c/x.py", "a/b/d/y.py", "a/z.py", "e/f/x.py", "e/f/g/y.py")}
@@ -786,9 +808,25 @@ class Folders(unittest.TestCase):
             ("mount_S_src_S_new_S_x_D_h", "mount/src/new"),
         ):
             self.assertEqual(self.faults(**{path: "/* Something. */\n"}), [f"{folder}/: {where}"])
-        self.assertEqual(self.faults(mount_S_src_S_server_S_serve_D_h="int x;\n"), [f"mount/src/server/: {where}"])
+        for text in (
+            "int x;\n",
+            "int x; /* server/: answers the kernel. */\n",
+            "/* my_server/: answers the kernel. */\n",
+        ):
+            self.assertEqual(self.faults(mount_S_src_S_server_S_serve_D_h=text), [f"mount/src/server/: {where}"])
         self.assertEqual(self.faults(mount_S_tests_S_x_D_py="import os\n"), [f"mount/tests/: {where}"])
         self.assertEqual(self.faults(docs_S_README_D_md="\n"), [f"docs/: {where}"])
+
+    def test_the_head_of_each_language(self):
+        for name, text in (
+            *((f"new_S_x_D_{ending}", "// new/: what is there\n") for ending in ("go", "mjs", "rt")),
+            *((f"new_S_x_D_{ending}", "/* new/: what is there */\n") for ending in ("h", "go")),
+            *(("new_S_new_D_py", '"""What is there."""\n'), ("new_S_new_D_rt", "//! What is there.\n")),
+            *(("new_S_run", "#!/bin/sh\n# new/: what is there\n"), ("new_S_new", '#!/bin/python\n"""What is there.\n')),
+        ):
+            self.assertEqual(self.faults(**{name: text}), [], name)
+        for name in ("new_S_x_D_c", "new_S_x_D_txt"):
+            self.assertEqual(len(self.faults(**{name: "// new/: what is there\n"})), 1, name)
 
     def test_a_folder_below_the_second_level_needs_none(self):
         self.assertEqual(self.faults(a_S_b_S_d_S_x_D_c=""), [])

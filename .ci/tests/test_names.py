@@ -17,13 +17,13 @@ class Constants(unittest.TestCase):
         "a.rs": "static MOST: u64 = 1_024u64;\n",
         "a.h": "#define GROUPS 0x400 /* all */\nenum { FIRST, SECOND = 1023, THIRD, /* x */ FOURTH = THIRD };\n",
         "a.c": "static const int shifted = 1 << 10;\n\nenum {\n\tHALF = 512,\n\tWHOLE = 2 * HALF,\n};\n",
-        "a.go": "const slots, other = 1024, 3\nconst (\n\tOne = 1\n\tFromC Code = C.GROUPS // a comment\n)\n",
+        "a.go": "const slots, other = 1024, 3\nconst (\n\tOne = Code(1)\n\tFromC Code = C.GROUPS // a comment\n)\n",
         "a.py": "A, B = 1024, 5\nclass C:\n    ROOM: int = 4 * 256  # enough\nname = 1024\nROOM_2 = 1024\n",
         "a.mjs": "export const WIDTH = 1024, HEIGHT = 3;\n",
         "a.sh": "MOST=1024\n",
         "script": "#!/usr/bin/env bash\nROOM=1024\n",
         "other": "#!/usr/bin/env python3\nROOM = 1024\n",
-        "crates/x/specs/A.antt": "SLOTS = 1024\nabbrev pub slots_max : ℕ\nslots_max = 1024\nparts 3 = 1024\nmore = 1024 + n\n",
+        "crates/x/specs/A.antt": "SLOTS = 1024\nabbrev pub slots_max : ℕ\nslots_max = 1024\nunfoldable pub WIDTH = 1024\nparts 3 = 1024\nmore = 1024 + n\n",
     }
 
     def test_each_language_names_its_owners(self):
@@ -39,6 +39,7 @@ class Constants(unittest.TestCase):
                 ("a.mjs", 1, "WIDTH = 1024"),
                 *(("a.sh", 1, "MOST = 1024"), ("script", 2, "ROOM = 1024"), ("other", 2, "ROOM = 1024")),
                 *(("crates/x/specs/A.antt", 1, "SLOTS = 1024"), ("crates/x/specs/A.antt", 3, "slots_max = 1024")),
+                ("crates/x/specs/A.antt", 4, "WIDTH = 1024"),
             ],
         )
 
@@ -99,6 +100,11 @@ class Constants(unittest.TestCase):
         found = [*(("a.sh", at, f"{name} = 1024") for at, name in enumerate("ABC", 1)), ("script", 2, "ROOM = 1024")]
         self.assertEqual([*numbers.owners(1024, texts)], found)
 
+    def test_a_comment_in_an_enumeration_is_no_enumerator(self):
+        for comment in ("// one, two", "/* one, two */", "/* one,\n\ttwo */"):
+            text = f"enum {{\n\tA, {comment}\n\tB = A + 7, {comment}\n\tC,\n}};\n"
+            self.assertEqual([said for _, _, said in numbers.owners(8, {"a.c": text})], ["C = 8"], comment)
+
     def test_the_first_enumerator_is_zero(self):
         self.assertEqual([*numbers.owners(0, self.TEXTS)], [("a.h", 2, "FIRST = 0")])
 
@@ -121,6 +127,7 @@ class Table(unittest.TestCase):
         ("status", "0", "MK_DONE", "-", "done", "answered"),
         ("number", "SLOTS", "1024", "groups"),
         ("number", "LEAVES", "8", "leaves"),
+        ("number", "HALF", "512", "half"),
         ("command", "mkdir /a", "PATH", "makes a group"),
     )
     TEXTS = {
@@ -163,6 +170,7 @@ class Table(unittest.TestCase):
 
     def test_a_name_with_a_point_before_it_is_in_longer_ones(self):
         self.assertEqual(names.longer_words([".tool"], 'see "/.tool.x.1", .tool and a.tool.'), {".tool.x.1", "a.tool"})
+        self.assertEqual(names.longer_words([".tool", "no"], 'see "/.tool.x.1"'), {".tool.x.1"})
         self.assertEqual(names.longer_words(["tool"], '"/.tools.", ..tool.'), {"tools"})
         self.assertEqual(names.longer_words(["pids.max"], "see .pids.max_2."), {"pids.max_2"})
 
@@ -173,6 +181,8 @@ class Table(unittest.TestCase):
     def test_a_small_number_is_not_looked_for_with_its_constant(self):
         said = "number: LEAVES is 8: leaves"
         self.assertEqual(names.same_things("LEAVES", self.TEXTS), ([], [said + "; ./where 8 finds the number itself"]))
+        said_of_half = "number: HALF is 512: half; ./where 512 finds the number itself"
+        self.assertEqual(names.same_things("HALF", self.TEXTS), ([], [said_of_half]))
         self.assertEqual(names.same_things("8", self.TEXTS), (["LEAVES"], [said]))
 
     def test_a_variant_is_that_of_the_whole_name(self):
@@ -181,6 +191,21 @@ class Table(unittest.TestCase):
         texts = {names.TABLE: "".join("\t".join(row) + "\n" for row in rows), names.FILES: variants}
         self.assertEqual(names.same_things("pids.events", texts)[0], ["Events"])
         self.assertEqual(names.same_things("pids.events.local", texts)[0], ["Local"])
+
+    def test_the_number_of_a_system_call(self):
+        texts = {
+            "a.c": "case SYS_openat:\ncase __NR_openat2:\n",
+            "b.c": "X_SYS_open(SYS_open_by)\n",
+            "c.c": "__NR_close\n",
+        }
+        for name, found in (
+            ("openat", ["SYS_openat"]),
+            ("openat2", ["__NR_openat2"]),
+            ("open", []),
+            ("close", ["__NR_close"]),
+        ):
+            self.assertEqual(names.same_things(name, texts)[0], found, name)
+        self.assertEqual(names.same_things("Openat", {"a.c": "SYS_Openat\n"})[0], [])
 
     def test_a_number_that_no_table_has(self):
         self.assertEqual(names.same_things("2048", {})[0], ["2,048", "2_048"])
@@ -197,7 +222,11 @@ class Names(unittest.TestCase):
     def test_files_and_folders_of_a_name(self):
         texts = dict.fromkeys(("a/tests/one.py", "a/tests/two.py", "b/tests/x/three.py", "c/tests.py"), "")
         self.assertEqual(names.files_named("tests", texts), ["a/tests/ 2 files", "b/tests/ 1 file", "c/tests.py"])
-        self.assertEqual(names.files_named("a/tests", texts), ["a/tests/ 2 files"])
+        for name in ("a/tests", "a/tests/"):
+            self.assertEqual(names.files_named(name, texts), ["a/tests/ 2 files"])
+        for name in ("one", "one.py", "tests/one.py", "a/tests/one.py"):
+            self.assertEqual(names.files_named(name, texts), ["a/tests/one.py"], name)
+        self.assertEqual(names.files_named("ne.py", texts), [])
 
     def test_a_name_with_hyphens_is_no_part_of_a_longer_one(self):
         for name, longer in (
@@ -209,12 +238,26 @@ class Names(unittest.TestCase):
             self.assertEqual(names.longer_words([name], f"== {longer}"), {longer})
             self.assertTrue(names.pattern_of([name]).search(f"mount/{name}:"))
         self.assertTrue(names.pattern_of(["zero"]).search("limit-of-zero"))
+        self.assertEqual(names.longer_words(["zero"], "limit-of-zeros"), {"zeros"})
+        for text in ("is.zero", "zero.is", "zero.", "(zero)"):
+            self.assertTrue(names.pattern_of(["zero"]).search(text), text)
+
+    def test_an_option_is_no_part_of_a_longer_one(self):
+        for text, is_there in (
+            *((it, True) for it in ("--keep", "[--keep]", "--keep=1", "-x,--keep.")),
+            *((it, False) for it in ("--keeps", "--keep-all", "a--keep", "---keep", "keep")),
+        ):
+            self.assertEqual(bool(names.pattern_of(["--keep"]).search(text)), is_there, text)
 
     def test_a_number_is_no_part_of_another(self):
         for text in ("4096", "a 4096.", "(4096, 1)", "4096;", "\\n4096"):
             self.assertTrue(names.pattern_of(["4096"]).search(text), text)
         for text in ("4096.5", "4096,000", "14096", "1,4096", "1.4096", "4096_000", "x4096", "40960"):
             self.assertFalse(names.pattern_of(["4096"]).search(text), text)
+        self.assertEqual(
+            [bool(names.pattern_of(["8"]).search(text)) for text in ("8", "18", "a8")], [True, False, False]
+        )
+        self.assertEqual(names.longer_words(["8"], "a8 a18 8x 81"), {"a8"})
 
     def test_a_word_of_an_answer_is_a_name_unless_it_is_english(self):
         own = (

@@ -419,11 +419,11 @@ class OfAMadeUpRepository(unittest.TestCase):
 
     def test_an_edit_by_its_name(self):
         found = ["defined     low/must-fail-more.edits:9 == two", "edits       low/two (Adds.IsFew)"]
-        for name in ("two", "low/two", "low/two.edit"):
+        for name in ("two", "two.edit", "low/two", "low/two.edit"):
             self.assertEqual(self.screen(name), [name, *found])
         whole = where.Search("low/two.edit", self.TEXTS).screen(is_whole=True)
         self.assertEqual(whole[2:], ["edits       low/must-fail-more.edits:9"])
-        for name in ("high/two", "low/sums", "low/absent"):
+        for name in ("high/two", "lo/two", "low/sums", "low/absent"):
             self.assertEqual(self.screen(name), [], name)
 
     def test_a_mutant_by_its_name_and_by_its_text(self):

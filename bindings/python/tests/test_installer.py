@@ -50,6 +50,7 @@ PLACES = [
     (["--prefix", "{tmp}/p"], "{tmp}/p", "{tmp}/p"),
     (["--prefix={tmp}/p"], "{tmp}/p", "{tmp}/p"),
     (["--prefix", "p"], "{tmp}/p", "{tmp}/p"),
+    (["--prefix", "a b &c"], "{tmp}/a b &c", "{tmp}/a b &c"),
     (["--destdir", "{tmp}/d"], "{tmp}/d/usr/local", "/usr/local"),
     (["--destdir={tmp}/d", "--prefix=/opt/x"], "{tmp}/d/opt/x", "/opt/x"),
     (["--prefix", "/opt/x", "--destdir", "d"], "{tmp}/d/opt/x", "/opt/x"),
@@ -63,6 +64,7 @@ def test_where_it_is_installed(archive, tmp_path, words, top, prefix):
     assert run(archive, "install", *words, cwd=tmp_path) == (0, f"install: {len(ALL)} files in {top}\n", "")
     assert there(top) == ALL and (top / LIST).read_text().split("\n") == [*ALL, ""]
     described = (top / "lib" / "pkgconfig" / "makhloeum.pc").read_text()
+    assert not re.search(r"(?<!\\)[ &]", described), "pkg-config would take it for the end of a word"
     assert re.sub(r"\\(.)", r"\1", described) == f"prefix={prefix.format(tmp=tmp_path)}\nlibdir=${{prefix}}/lib\n"
     assert os.readlink(top / LINK) == "liby.so.1.0.0" and (top / LINK).read_text() == "library"
     modes = [stat.S_IMODE((top / name).stat().st_mode) for name in ("bin/tool", "bin", "lib/liby.so.1.0.0")]
@@ -90,6 +92,25 @@ def test_an_installation_that_fails_says_so(archive, tmp_path):
         path = f"{tools}:{os.environ['PATH']}"
         status, out, _ = run(archive, "install", "--prefix", "p", cwd=tmp_path, PATH=path)
         assert status != 0 and out == "", way
+
+
+def test_nothing_is_left_of_its_work(archive, tmp_path):
+    rooms = tmp_path / "rooms"
+    rooms.mkdir()
+    for text, wanted in (("library", 0), ("made without proofs", 1)):
+        (archive / "tree" / "lib" / "libmakhloeum.so.1").write_text(text)
+        assert run(archive, "install", "--prefix", str(tmp_path / "p"), TMPDIR=str(rooms))[0] == wanted
+        assert os.listdir(rooms) == []
+
+
+def test_in_a_clone_it_takes_what_was_built(archive, tmp_path):
+    (archive / "tree").rename(tmp_path / "built")
+    (archive / ".ci").mkdir()
+    (archive / ".ci" / "tree").write_text(f'#!/bin/sh\ncp -R "{tmp_path}/built/." "$1"\n')
+    (archive / ".ci" / "tree").chmod(0o755)
+    top = tmp_path / "p"
+    assert run(archive, "install", "--prefix", str(top)) == (0, f"install: {len(ALL)} files in {top}\n", "")
+    assert there(top) == ALL
 
 
 def there_of_the_archive(archive):
