@@ -82,8 +82,9 @@ class Gates(unittest.TestCase):
         environment = dict(os.environ, PATH=f"{self.top}/{tools}{os.environ['PATH']}" if tools else "/usr/bin:/bin")
         environment["TMPDIR"] = f"{self.top}/tmp"
         return subprocess.Popen(
-            ["env", "--default-signal", *words],  # what these tests run in may ignore some, as nohup does
-            cwd=self.top,
+            # what these tests run in may ignore some, as nohup does
+            ["env", "--default-signal", f"{self.top}/{words[0]}", *words[1:]],
+            cwd=f"{self.top}/status",  # a gate works in its clone, wherever it is called
             env=environment,
             stdin=subprocess.DEVNULL,
             stdout=subprocess.PIPE,
@@ -119,6 +120,10 @@ class Gates(unittest.TestCase):
         os.remove(f"{self.top}/waits")
         self.comes_to(name, 0)
         return ran.returncode
+
+    def script_that_fails(self):
+        text = "import unittest\n\n\nclass One(unittest.TestCase):\n    def test(self):\n        self.fail()\n"
+        self.write(".ci/tests/test_one.py", text)
 
     @staticmethod
     def names_of(lines):
@@ -187,15 +192,12 @@ class Run(Gates):
         self.assertEqual(self.names_of(lines), {**NAMES, **OF_TWO, **more})
 
     def test_the_proofs_begin_only_if_documents_and_mutants_are_right(self):
-        for name in (".ci/documents", "completion/generate", ".ci/mutants"):
+        for name in (".ci/documents", ".ci/laws", "completion/generate", ".ci/mutants"):
             self.comes_to(name, 1)
             self.assertEqual(self.played(".ci/run")[0], 1, name)
             self.assertNotIn("tools/rt ci", self.calls())
             self.comes_to(name, 0)
-        self.write(
-            ".ci/tests/test_one.py",
-            "import unittest\n\n\nclass One(unittest.TestCase):\n    def test(self):\n        self.fail()\n",
-        )
+        self.script_that_fails()
         self.assertEqual(self.played(".ci/run")[0], 1)
         self.assertNotIn("tools/rt ci", self.calls())
 
@@ -272,6 +274,10 @@ class Run(Gates):
         self.assertEqual(status, 0, lines)
         self.assertIn("proved one", lines)
         self.assertIn("told by edits", lines)
+        self.write(".ci/edits", "#!/bin/sh\n[ $1 != --note ] || { echo one was not refused; exit 1; }\n", 0o755)
+        status, lines = self.played(".ci/run")
+        self.assertEqual((status, "one was not refused" in lines, lines[-2]), (1, True, "what failed: the edits"))
+        self.assertIn(LAST, self.calls(), "the others run")
         self.write(".ci/edits", "#!/bin/sh\n[ $1 != --lay ] || exit 1\n", 0o755)
         os.remove(f"{self.top}/calls")
         self.assertEqual(self.played(".ci/run")[0], 1)
@@ -322,11 +328,12 @@ class Quick(Gates):
             self.assertEqual(self.stopped(".ci/quick", ".ci/unproved", number), status)
             self.assertNotIn("bindings/build", self.calls())
 
-    def test_it_ends_if_a_part_ends_by_an_interrupt(self):
+    def test_it_ends_if_a_part_ends_by_a_signal(self):
         """A gate in bash was seen to go on after an interrupt, once in 200 tries; why is not known. The parts get it too."""
-        self.write(".ci/unproved", "#!/bin/sh\nkill -INT $$\n", 0o755)
-        self.assertEqual(self.quick()[0], 130)
-        self.assertNotIn("bindings/build", self.calls())
+        for name, status in (("INT", 130), ("TERM", 143)):
+            self.write(".ci/unproved", f"#!/bin/sh\nkill -{name} $$\n", 0o755)
+            self.assertEqual(self.quick()[0], status)
+            self.assertNotIn("bindings/build", self.calls())
 
     def test_short_runs_are_of_these_tests(self):
         self.quick()
@@ -389,6 +396,9 @@ class Quick(Gates):
             status, lines, _ = self.quick()
             self.assertEqual((status, lines[-2]), (1, f"what failed: {part}"))
             self.comes_to(name, 0)
+        self.script_that_fails()
+        status, lines, _ = self.quick()
+        self.assertEqual((status, lines[-2]), (1, "what failed: the tests of these scripts"))
         self.comes_to("bindings/build", 1)
         self.assertEqual(self.quick()[0], 1)
         self.assertNotIn("bindings/test", [call.split()[0] for call in self.calls()])
@@ -458,6 +468,9 @@ class AllUnproved(Gates):
             status, lines = self.played(".ci/all-unproved")
             self.assertEqual((status, lines[-2]), (1, f"what failed: {part}"))
             self.comes_to(name, 0)
+        self.script_that_fails()
+        status, lines = self.played(".ci/all-unproved")
+        self.assertEqual((status, lines[-2]), (1, "what failed: the tests of these scripts"))
 
     def test_other_words_are_refused(self):
         for words in (["--wrong"], ["--install", "x"]):

@@ -2,6 +2,7 @@
 import os
 import re
 import shutil
+import stat
 import subprocess
 import tempfile
 import time
@@ -55,6 +56,7 @@ class Parts(unittest.TestCase):
             stderr=subprocess.STDOUT,
             text=True,
             timeout=600,
+            umask=0o077,
             check=False,
         )
         return ran.returncode, ran.stdout.rstrip("\n").split("\n"), work
@@ -65,6 +67,14 @@ class Parts(unittest.TestCase):
         named = [line for line in lines if line.startswith("what failed: ")]
         self.assertEqual(named, [f"what failed: {failures}"] if failures else [])
         return lines
+
+    def test_all_that_a_gate_says(self):
+        head, end = "the time of each part, in minutes:", "nothing was skipped"
+        self.assertEqual(self.gate(), (0, [head, end, "0 passed, 0 failed"]))
+        status, lines = self.gate("passes")
+        lines[4] = re.sub(r"^   0:\d\d", "TIME", lines[4])
+        counts = "3 passed, 0 failed"
+        self.assertEqual((status, lines), (0, ["== passes", "more", counts, head, "TIME  passes", end, counts]))
 
     def test_what_passes_is_added_up(self):
         self.ends(["passes", "passes", "says_nothing"], 0, "", "6 passed, 0 failed")
@@ -95,11 +105,11 @@ end_parts"""
         self.assertEqual((status, lines[:4]), (0, ["== some words", "a b", "c", "== no input"]))
 
     def test_a_command_does_not_ignore_the_signals_of_a_keyboard(self):
-        for name, wanted in (("INT", 130), ("QUIT", 1)):
+        for name, wanted in (("INT", 130), ("TERM", 143), ("QUIT", 1)):
             lines = f"""part "it is sent one" sh -c 'ulimit -c 0; kill -{name} $$; echo it goes on'\nend_parts"""
             status, said, _ = self.played(lines)
             self.assertEqual((status, "it goes on" in said), (wanted, False), said)
-            self.assertEqual("it is sent one: ended by an interrupt, and so ends all" in said, wanted == 130, said)
+            self.assertEqual("it is sent one: ended by a signal, and so ends all" in said, wanted != 1, said)
 
     def test_a_part_is_ended_with_its_gate(self):
         part = """part "waits" bash -c 'trap "echo ended >>$1/log; exit" TERM; echo began >>$1/log; while :; do sleep 0.01; done' part "$work" """
@@ -120,11 +130,26 @@ end_parts"""
                 it.write(f"#!/bin/sh\nmkdir {tools}/busy || exit 100\nsleep 0.2\nrmdir {tools}/busy\necho $0: $#: $*\n")
             os.chmod(at, 0o755)
             parts = "\n".join(f'part "{it}" apt-get install "{it} it"' for it in "abc")
-            status, lines, _ = self.played(f"{parts}\nend_parts", PATH=f"{tools}:{os.environ['PATH']}")
+            status, lines, work = self.played(f"{parts}\nend_parts", PATH=f"{tools}:{os.environ['PATH']}")
         self.assertEqual(status, 0, lines)
+        for path in (work, f"{work}/bin", f"{work}/bin/apt-get"):
+            self.assertEqual(stat.S_IMODE(os.stat(path).st_mode), 0o755, "others may call it")
         self.assertEqual(
             sorted(line for line in lines if line.startswith(at)), [f"{at}: 2: install {it} it" for it in "abc"]
         )
+
+    def test_nobody_waits_without_apt_or_flock(self):
+        with tempfile.TemporaryDirectory() as tools:
+            for name in "awk bash cat chmod env flock grep mkdir mkfifo sed sh tail".split():
+                os.symlink(shutil.which(name), f"{tools}/{name}")
+            none = self.played('part "none" sh -c "! command -v apt-get"\nend_parts', PATH=tools)[:2]
+            os.unlink(f"{tools}/flock")
+            with open(f"{tools}/apt-get", "w", encoding="ascii") as it:
+                it.write("#!/bin/sh\necho called $*\n")
+            os.chmod(it.name, 0o755)
+            called = self.played('part "a" apt-get update\nend_parts', PATH=tools)[:2]
+        self.assertEqual((none[0], none[1][:2]), (0, ["== none", "the time of each part, in minutes:"]))
+        self.assertEqual((called[0], called[1][:2]), (0, ["== a", "called update"]))
 
     def test_what_failed_is_added_up_and_named(self):
         self.ends(["fails"], 1, "fails", "2 passed, 1 failed")
