@@ -68,9 +68,7 @@ def cited_in(text, known):
     names, files = known
     for word in WORD.findall(text):
         first, point, last = word.partition(".")
-        if word in names:
-            yield names[word]
-        elif first in names:
+        if first in names:
             yield names[first]
         elif point and first in files:
             yield (*files[first], last)

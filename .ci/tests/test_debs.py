@@ -261,6 +261,15 @@ class Debs(unittest.TestCase):
         library = f"{folders['libmakhloeum7']}/usr/lib/a-b-c/libmakhloeum.so.7"
         self.assertEqual(int(os.lstat(library).st_mtime), 86400)
 
+    def test_a_tool_that_fails_ends_it(self):
+        environment = dict(os.environ, PATH=f"{self.top}/tools:{os.environ['PATH']}")
+        for name in ("cc", "dpkg", "dpkg-deb"):
+            self.write(f"tools/{name}", "#!/bin/sh\nexit 1\n", 0o755)
+            words = [f"{self.top}/.ci/debs", "tree", "to"]
+            ran = subprocess.run(words, cwd=self.top, env=environment, check=False, capture_output=True)
+            self.assertEqual((ran.returncode, ran.stdout, os.listdir(f"{self.top}/to")), (1, b"", []), name)
+            self.write(f"tools/{name}", f"#!/bin/sh\n{TOOLS[name]}\n", 0o755)
+
     def test_a_tree_without_programs(self):
         shutil.rmtree(f"{self.top}/tree/bin")
         folders, names = self.made()

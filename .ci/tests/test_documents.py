@@ -177,13 +177,14 @@ class Whole(MadeUp):
         self.assertEqual([*documents.faults_of_definitions(documents.Repository())], [fault])
 
     def test_links_lead_to_pages_and_headings(self):
-        self.write("docs/A.md", "# A title: `code`, two\n\n    # no heading\n\n## Another\n")
+        self.write("docs/A.md", "# A title: `code`, two\n\n    # no heading\n\n## Another\n\nplain words\n")
         repository = documents.Repository()
         for target, fault in (
             *((it, None) for it in ("A.md", "../docs/A.md", "../docs", "A.md#another", "A.md#a-title-code-two")),
             *((it, None) for it in ("https://a.b", "http://a.b/c.md", "mailto:a@b.c")),
             ("B.md", "no page B.md"),
             ("A.md#no-heading", "no heading A.md#no-heading"),
+            ("A.md#plain-words", "no heading A.md#plain-words"),
             ("../docs#another", "no heading ../docs#another"),
             ("#another", None),
             ("#none", "no heading #none"),
@@ -202,6 +203,9 @@ class Whole(MadeUp):
         ):
             found = [*documents.faults_of_names(repository, "a.md", 3, f"See `{token}`.")]
             self.assertEqual(found, [f"a.md:3: {fault}"] if fault else [], token)
+        found = [*documents.faults_of_names(repository, "a.md", 3, "`main.c`, `other.c`, `int other(void)`, `more.c`")]
+        faults = ("there is no other.c", "other of int other(void) occurs nowhere", "there is no more.c")
+        self.assertEqual(found, [f"a.md:3: {fault}" for fault in faults])
 
     def test_an_item_behind_a_file_is_in_it(self):
         self.write("program.py", "first = 1\n")
@@ -365,7 +369,8 @@ class Elsewhere(MadeUp):
         self.write(".ci/documents", '{"a.md": {"elsewhere"}}\n')
         self.write("program", "a_word\n")
         repository = documents.Repository()
-        self.assertTrue(repository.has_word("a_word"))
+        for word, is_there in (("a_word", True), ("a_", True), ("a_w", False), ("b_", False)):
+            self.assertEqual(repository.has_word(word), is_there, word)
         self.assertFalse(repository.has_word("elsewhere"))
         with mock.patch.object(documents, "ELSEWHERE", {"a.md": {"elsewhere"}}):
             of = [
@@ -419,6 +424,7 @@ class Paths(unittest.TestCase):
         self.assertEqual(self.faults_of("see `bindings/c/gone.c`"), ["a.md:3: no path bindings/c/gone.c"])
         self.assertEqual(self.faults_of("`low/gone`, `c/gone/` and `top/gone --check`")[0], "a.md:3: no path low/gone")
         self.assertEqual(len(self.faults_of("`low/gone`, `c/gone/` and `top/gone --check`")), 3)
+        self.assertEqual(len(self.faults_of("`layout/gone` and `low/outer`")), 2, "none of them is what is built")
 
     def test_what_is_no_path_of_the_repository(self):
         for line in (

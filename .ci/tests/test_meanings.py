@@ -49,6 +49,13 @@ class Contracts(unittest.TestCase):
         self.assertEqual(self.contract("Gate::pass", text), ["requires one { A }", "ensures two { B }"])
         self.assertEqual(self.of_pages(text), {"pass": ["one", "two"], "wait": ["three"]})
 
+    def test_a_contract_ends_with_its_own_function(self):
+        text = "pub trait One {\n    fn one();\n    fn two()\n        ensures kept { true };\n}\n\n"
+        text += "pub fn three() ensures told { true } {}\n\npub fn four()\n    ensures few { true }\n    // not {\n"
+        text += "    ensures more { true }\n{\n    // ensures none { true }\n}\n"
+        wanted = {"one": [], "two": ["kept"], "three": ["told"], "four": ["few", "more"]}
+        self.assertEqual(self.of_pages(text), wanted)
+
     @staticmethod
     def of_pages(text):
         """The names of the clauses of each function, as docs/reference has them."""
@@ -63,7 +70,7 @@ class Citations(unittest.TestCase):
         "crates/low/specs/Two.antt": "-- Twos.\n-- More.\nuse Rattle.low.specs.One.{told}\n\n-- it is more\nabbrev pub more : ℕ\n"
         "more = told.x.y\n",
         "crates/low/specs/Three.antt": "use Rattle.low.specs.One as one\nuse Rattle.low.specs.Two.{more as other}\n"
-        "abbrev pub most : ℕ\nmost = one.told + other\n-- more, two.more, told\n",
+        "abbrev pub most : ℕ\nmost = one.told + other\n-- more, two.more, told\nabbrev pub last : ℕ\nlast = most last\n",
         "crates/low/src/a.rt": "ghost use Rattle.low.specs.One.{told};\n\n/// It keeps.\n#[inline]\npub fn f()\n"
         "    ensures kept { told.x.y }\n    ensures { told told }\n    requires no { one.told, more }\n{}\n",
     }
@@ -72,9 +79,8 @@ class Citations(unittest.TestCase):
         """By the imports of the file, whatever follows the name behind a point; comments cite nothing."""
         crates = clauses.Crates(self.TEXTS, ["low"])
         cited = {one.name: sorted((by.name, clause or "") for by, clause in one.cited) for one in crates.definitions()}
-        self.assertEqual(
-            cited, {"told": [("f", ""), ("f", "kept"), ("more", ""), ("most", "")], "more": [("most", "")], "most": []}
-        )
+        of_told = [("f", ""), ("f", "kept"), ("more", ""), ("most", "")]
+        self.assertEqual(cited, {"told": of_told, "more": [("most", "")], "most": [("last", "")], "last": []})
 
     def test_files_of_definitions_are_in_the_order_of_their_list(self):
         found = [*clauses.definitions_of(self.TEXTS, "low")]
