@@ -51,9 +51,7 @@ class Meaning:
         page = re.fullmatch(r"docs/reference/(\w+)\.md", path)
         if page:
             return not first and page[1] in self.crates
-        if path.endswith((".md", ".cases")) or path.startswith("man/"):
-            return None
-        # another language: what it defines itself is another thing
+        # another language: what it defines itself is another thing, and a document defines nothing
         return False if self.defines(path) else None
 
     def is_meant_in_crate(self, path, number, line, found):

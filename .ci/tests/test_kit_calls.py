@@ -78,6 +78,7 @@ class OverLibraries(MadeUp):
         for crate in ("low", "high", "c_library", "program"):
             status, said = self.run_it(f"{self.top}/.ci/over-libraries", crate)
             self.assertEqual((status, said.splitlines()), (0, self.words(crate)), crate)
+        self.assertEqual(self.run_it(f"{self.top}/.ci/over-libraries"), (1, ""), "it needs a crate")
 
     def test_the_library_for_c_is_built_over_them(self):
         self.assertEqual(self.run_it(f"{self.top}/.ci/static-library"), (0, "logic=proved functions=3\n"))

@@ -118,7 +118,8 @@ class Meanings(unittest.TestCase):
         "crates/low/specs/Two.antt": "abbrev pub told : ℕ\ntold = 2\n",
         "crates/low/src/one.rt": "ghost use Rattle.low.specs.One.{told};\n\nfn first()\n    ensures { told }\n{}\n",
         "crates/low/src/two.rt": "ghost use Rattle.low.specs.Two.{told};\n\nfn second()\n    ensures { told }\n{}\n",
-        "crates/low/src/none.rt": "fn third() {\n    told();\n    // as told\n    x.told = Two.told;\n}\n",
+        "crates/low/src/none.rt": "fn third() {\n    told();\n    // as told\n    x.told = Two.told;\n    // told // twice\n}\n",
+        "crates/low/src/high.rt": "ghost use Rattle.high.specs.One.{told};\n\nfn other()\n    ensures { told }\n{}\n",
         "crates/low/src/rows.rt": "fn fourth() {\n    x.most;\n}\n",
         "crates/low/src/calls.rt": "ghost use Rattle.low.specs.One.{told};\n\nfn fifth() {\n    f().told = 1;\n    x::told();\n    x.told;\n"
         "    One::told();\n    // as told\n}\n",
@@ -127,11 +128,13 @@ class Meanings(unittest.TestCase):
         "crates/low/proofs/Named.antt": "use Rattle.low.specs.One.{told as other}\nuse Rattle.low.specs.Two.{told}\nx = told\n",
         "crates/low/proofs/Whole.antt": "use Rattle.low.specs.One\nx = One.told\ny = Two.told\n",
         "crates/low/must-fail/a.edit": "# breaks: One.told\nfile: src/one.rt\nold: told\nnew: tell\n",
+        "crates/low/must-fail/n.edit": "# as told\nfile: src/none.rt\nold: told\nnew: tell\n",
         "crates/low/must-fail-more.edits": "\n== b\n# breaks: Two.told\nfile: src/two.rt\nold: told\nnew: tell\n\n"
         "== c\n# breaks: One.told\nfile: src/one.rt\nold: told\nnew: tells\n",
         "crates/low_tests/data/a.cases": "# shows: One.told\ntold 1\n",
         "docs/reference/low.md": "| `told` | one |\n| `Tree::told` | a function |\n",
         "docs/A.md": "`One.told`, `Two.told`\n`Two.told`\nAs told.\n",
+        "man/a.1": "As told.\n",
         "python/a.py": "def told():\n    return told()\n",
         "python/b.py": "a.told()\n",
     }
@@ -157,10 +160,12 @@ class Meanings(unittest.TestCase):
                 "tests": {"crates/low_tests/data/a.cases": [1]},
                 "documents": {"docs/A.md": [1], "docs/reference/low.md": [1]},
                 "perhaps": {
-                    "crates/low/src/none.rt": [3],
+                    "crates/low/src/none.rt": [3, 5],
                     "crates/low/proofs/None.antt": [1],
+                    "crates/low/must-fail/n.edit": [1],
                     "crates/low_tests/data/a.cases": [2],
                     "docs/A.md": [3],
+                    "man/a.1": [1],
                     "python/b.py": [1],
                 },
             },
