@@ -2,7 +2,7 @@
 import os
 import shutil
 import subprocess
-from unittest import main
+from unittest import main, mock
 
 from scripts import TOP, MadeUp, load
 
@@ -16,11 +16,17 @@ typedef struct {
 \tuint8_t first, second; /* two in a line */
 \tvoid *pointer;
 } mk_pair;
+typedef struct {
+\tuint32_t count;
+} mk_count;
 enum {
 \tMK_DONE = 0, /* it was done */
 \tMK_REFUSED = 64
 };
 /* uint32_t mk_comment(void); */
+/* Of lines:
+uint32_t mk_of_lines(void);
+*/
 uint32_t mk_open(mk_pair *pair, const char *path,
 \tuint32_t more);
 const char *mk_name(uint32_t code);
@@ -69,8 +75,10 @@ var names = map[Code]string{
 }
 """
 PYTHON = """
-__all__ = ["Pair", "join", "LIMIT"]
+__all__ = ["Pair", "Made", "join", "LIMIT"]
 LIMIT = 3
+class Made:
+    def __init__(self, path, more=1): ...
 class Base:
     def kept(self, path): ...
     def _private(self): ...
@@ -126,6 +134,7 @@ class Promised(MadeUp):
         self.assertEqual([it for it in sections["symbols of the library"] if "mk_" in it], ["mk_name", "mk_open"])
         self.assertNotIn("own", sections["symbols of the library"])
         layout = ["mk_pair: 16 bytes", "mk_pair.first: 1 bytes at 0", "mk_pair.second: 1 bytes at 1"]
+        layout += ["mk_count: 4 bytes", "mk_count.count: 4 bytes at 0"]
         layout += ["mk_pair.pointer: 8 bytes at 8", "MK_DONE = 0", "MK_REFUSED = 64", "MK_FOREVER = 4294967295"]
         self.assertEqual(sections["structs and numbers of C"], sorted(layout))
         self.assertEqual(
@@ -139,7 +148,14 @@ class Promised(MadeUp):
         )
         self.assertEqual(
             sections["names of Python"],
-            ["LIMIT", "Pair", "Pair.first", "Pair.kept(self, path)", "Pair.split(self, at, keyword more=..)"]
+            [
+                "LIMIT",
+                "Made(path, more=..)",
+                "Pair",
+                "Pair.first",
+                "Pair.kept(self, path)",
+                "Pair.split(self, at, keyword more=..)",
+            ]
             + ["join(*pairs, **names)"],
         )
         self.assertEqual(
@@ -213,6 +229,19 @@ class Promised(MadeUp):
         self.assertEqual(self.run_with(), [skipped, "11 passed, 0 failed"])
         self.assertEqual(self.run_with("--write", status=1)[0], skipped)
         self.assertEqual(self.read(promised.LIST), before)
+
+    def test_what_needs_a_missing_tool_is_skipped(self):
+        with mock.patch.dict(os.environ, PATH=f"{self.top}/none", CC="cc"):
+            lines = self.run_with()
+        of = ("soname", "objdump"), ("symbols", "nm")
+        skipped = [f"promised: {name} of the library: skipped, {tool} is missing" for name, tool in of]
+        skipped.append("promised: structs and numbers of C: skipped, cc is missing")
+        self.assertEqual(lines, [*skipped, "9 passed, 0 failed"])
+
+    def test_a_text_is_the_same_for_each_caller(self):
+        self.write(promised.PROGRAMS["cgreplay"], '#!/bin/sh\necho "$LC_ALL $COLUMNS"\n', 0o755)
+        with mock.patch.dict(os.environ, LC_ALL="C.UTF-8", COLUMNS="20"):
+            self.assertEqual(promised.help_of("cgreplay"), ["C 80"])
 
     def test_a_header_that_can_not_be_compiled_is_named(self):
         self.write("bindings/c/makhloeum.h", HEADER.replace("uint8_t first", "unknown first"))
