@@ -70,6 +70,11 @@ const (
 
 var ErrClosed = errors.New("closed")
 
+var (
+\t// ErrMore is another.
+\tErrMore = errors.New("more")
+)
+
 var names = map[Code]string{
 \tOne: "One",
 }
@@ -129,6 +134,7 @@ class Promised(MadeUp):
 
     def test_the_list_has_what_users_see(self):
         sections = self.sections()
+        self.assertTrue(self.read(promised.LIST).startswith(f"{promised.HEAD}\n== soname of the library\n"))
         self.assertEqual(list(sections), list(promised.SECTIONS))
         self.assertEqual(sections["soname of the library"], ["libmakhloeum.so.1"])
         self.assertEqual([it for it in sections["symbols of the library"] if "mk_" in it], ["mk_name", "mk_open"])
@@ -169,6 +175,7 @@ class Promised(MadeUp):
                 "makhloeum: type Text struct",
                 "makhloeum: type Text: Path string",
                 "makhloeum: var ErrClosed",
+                'makhloeum: var: ErrMore = errors.New("more")',
                 "makhloeumtest: func New(t testing.TB)",
             ],
         )
@@ -229,6 +236,11 @@ class Promised(MadeUp):
         self.assertEqual(self.run_with(), [skipped, "11 passed, 0 failed"])
         self.assertEqual(self.run_with("--write", status=1)[0], skipped)
         self.assertEqual(self.read(promised.LIST), before)
+        os.remove(f"{self.top}/{promised.LIBRARY}")
+        of = ["soname of the library", "symbols of the library", "names of Python"]
+        of += [f"help of makhloeum {it}" for it in promised.COMMANDS]
+        lacks = [f"promised: {name}: skipped, {promised.LIBRARY} isn't built" for name in of]
+        self.assertEqual(self.run_with(), [*lacks[:3], skipped, *lacks[3:], "5 passed, 0 failed"])
 
     def test_what_needs_a_missing_tool_is_skipped(self):
         with mock.patch.dict(os.environ, PATH=f"{self.top}/none", CC="cc"):
