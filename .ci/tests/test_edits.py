@@ -337,6 +337,17 @@ class Edits(MadeUp):
         for words in (["--check"], ["--lay"], ["--full"], ["sessions"]):
             self.assertEqual(self.run_with(*words, status=1), [why])
 
+    def test_an_edit_whose_old_text_is_there_twice_fails(self):
+        self.write("crates/low/src/lib.rt", "right, and right\n")
+        self.more("low", "e", "file: src/lib.rt\nold: right\nnew: wrong\n")
+        why = "edits: low/e.edit can't be applied: an old: text is in src/lib.rt 2 times, not once"
+        self.assertIn(why, self.run_with("--check", status=1))
+
+    def test_only_the_first_line_says_that_no_names_are_taken(self):
+        said = ["rt: low\n", "usage: of a test\n", "rt: high\n"]
+        self.patch("lines_of", lambda command: iter(said))
+        self.assertEqual([*edits.lines_of_rt(["rt", "ci"], ["low"])], said)
+
     def test_an_edit_may_change_what_it_wrote(self):
         """One blank after `new:` is not of the text, as `rt` reads it."""
         for new, old in (
