@@ -1,4 +1,6 @@
 """Tests of .ci/full in a made-up repository, with a function in place of the programs that it runs."""
+import contextlib
+import io
 import os
 import subprocess
 import unittest
@@ -7,6 +9,7 @@ from unittest import mock
 from scripts import MadeUp, load
 
 full = load(".ci/full")
+RUN = full.run
 
 
 class Full(MadeUp):
@@ -47,6 +50,20 @@ class Full(MadeUp):
 
     def noted(self):
         return {line.split()[0]: line.split()[1] for line in full.passed().values()}
+
+    def test_how_a_program_is_run(self):
+        """At the top, with these settings besides the caller's and without an input; it is said before, and its status counts."""
+        said = io.StringIO()
+        script = 'echo "$PWD $FUZZ_SECONDS $OTHER" >said; read it || echo nothing >>said'
+        with contextlib.redirect_stdout(said), mock.patch.dict(os.environ, OTHER="mine"):
+            got = [RUN(["sh", "-c", script], FUZZ_SECONDS="7"), RUN(["false"]), RUN(["sh", "-c", "exit 3"])]
+        self.assertEqual((got, self.read("said")), ([True, False, False], f"{self.top} 7 mine\nnothing\n"))
+        self.assertEqual(said.getvalue(), f"full: FUZZ_SECONDS=7 sh -c {script}\nfull: false\nfull: sh -c exit 3\n")
+
+    def test_a_part_takes_ten_minutes_if_nothing_is_said(self):
+        for text, minutes in (("", 10), ("7", 7)):
+            with mock.patch.dict(os.environ, MINUTES=text):
+                self.assertEqual(full.minutes(), minutes)
 
     def test_what_passed_is_noted_with_its_commit(self):
         first = self.commit_of("x")
