@@ -65,6 +65,16 @@ class Full(MadeUp):
             with mock.patch.dict(os.environ, MINUTES=text):
                 self.assertEqual(full.minutes(), minutes)
 
+    def test_a_step_with_changes_that_are_not_committed_does_not_count(self):
+        self.write("mount/a.c", "changed\n")
+        self.assertIn("fuzz passed, and is not noted", self.said("fuzz"))
+        self.calls, self.fails_at = [], 2
+        self.said("fuzz", status=1)
+        self.git("checkout", "--", ".")
+        self.calls, self.fails_at = [], None
+        self.said("fuzz")
+        self.assertEqual(len(self.calls), 3)
+
     def test_what_passed_is_noted_with_its_commit(self):
         first = self.commit_of("x")
         self.said("edits", "mutants")
