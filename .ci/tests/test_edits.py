@@ -247,6 +247,7 @@ class Edits(MadeUp):
             self.assertEqual(self.run_with("--check", status=1), [why])
         for text, why in (
             ("file: src/lib.rt\n", "no pair of old: and new:"),
+            ("file: src/none.rt \nold: right\nnew: wrong\n", "there is no src/none.rt"),
             ("file: src/gone.rt\nold: right\nnew: wrong\n", "there is no src/gone.rt"),
             ("file: src/lib.rt\nold: right\nnew: a\nnew: b\n", "a new: line before file: and old:"),
         ):
@@ -336,6 +337,12 @@ class Edits(MadeUp):
         why = "edits: sessions/stale.edit can't be applied: an old: text is in src/lib.rt 0 times, not once"
         for words in (["--check"], ["--lay"], ["--full"], ["sessions"]):
             self.assertEqual(self.run_with(*words, status=1), [why])
+
+    def test_what_is_below_a_crate(self):
+        """What each of its libraries uses too, lowest first."""
+        self.write("crates.txt", "# A head\na:\nb: std\nc: a\nd: b\ne with-words: c d\nf: e\n")
+        for crate, wanted in (("a", ""), ("c", "a"), ("e", "abcd"), ("f", "abcde")):
+            self.assertEqual(edits.below(crate), [*wanted], crate)
 
     def test_an_edit_whose_old_text_is_there_twice_fails(self):
         self.write("crates/low/src/lib.rt", "right, and right\n")

@@ -65,6 +65,18 @@ class Full(MadeUp):
             with mock.patch.dict(os.environ, MINUTES=text):
                 self.assertEqual(full.minutes(), minutes)
 
+    def test_the_first_note_and_each_part(self):
+        self.write(".ci/state/promised", "")
+        os.remove(f"{self.top}/.ci/state/full-passed")
+        self.commit()
+        self.said("recipes", "edits", "mutants")
+        self.assertEqual(self.calls, [".ci/recipes", ".ci/edits --full", ".ci/mutants"])
+        head, *lines = self.read(".ci/state/full-passed").splitlines()
+        self.assertTrue(head.startswith("# Written by .ci/full: "))
+        self.assertEqual([line.split()[0] for line in lines], ["edits", "mutants", "recipes"])
+        for words in ([], ["edits", "none"]):
+            self.assertIn(".ci/full PART ..", self.said(*words, status=2))
+
     def test_a_step_with_changes_that_are_not_committed_does_not_count(self):
         self.write("mount/a.c", "changed\n")
         self.assertIn("fuzz passed, and is not noted", self.said("fuzz"))
