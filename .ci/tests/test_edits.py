@@ -327,6 +327,9 @@ class Edits(MadeUp):
             with self.assertRaises(SystemExit) as no:
                 version()
         self.assertTrue(str(no.exception).startswith("edits: rt version: "))
+        with mock.patch.dict(os.environ, PATH=f"{self.top}/none"), self.assertRaises(SystemExit) as no:
+            version()
+        self.assertTrue(str(no.exception).startswith("edits: rt version: "), "there is no kit")
 
     def test_a_command_runs_at_the_top_and_its_errors_are_read_too(self):
         said = [*lines_of(["sh", "-c", "pwd; echo why >&2"])]
@@ -337,6 +340,18 @@ class Edits(MadeUp):
         why = "edits: sessions/stale.edit can't be applied: an old: text is in src/lib.rt 0 times, not once"
         for words in (["--check"], ["--lay"], ["--full"], ["sessions"]):
             self.assertEqual(self.run_with(*words, status=1), [why])
+
+    def test_what_a_killed_gate_laid_is_laid_no_more(self):
+        self.write("crates/low/must-fail/second-set-old.edit", "file: src/lib.rt\nold: right\nnew: wrong\n")
+        self.run_with("--lay")
+        self.assertFalse(os.path.exists(f"{self.top}/crates/low/must-fail/second-set-old.edit"))
+
+    def test_what_the_prover_says_is_shown_and_what_is_stored_says_by_whom(self):
+        lines = self.run_with("--full")
+        self.assertTrue(
+            [line for line in lines if line.startswith("rt: must-fail sessions/second-set-d.edit: ")], lines
+        )
+        self.assertTrue(self.read("passed").startswith("# Written by .ci/edits: "))
 
     def test_what_is_below_a_crate(self):
         """What each of its libraries uses too, lowest first."""
