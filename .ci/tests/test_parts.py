@@ -5,7 +5,6 @@ import shutil
 import stat
 import subprocess
 import tempfile
-import time
 import unittest
 
 TOP = os.path.dirname(os.path.dirname(os.path.dirname(os.path.realpath(__file__))))
@@ -112,16 +111,13 @@ end_parts"""
             self.assertEqual("it is sent one: ended by a signal, and so ends all" in said, wanted != 1, said)
 
     def test_a_part_is_ended_with_its_gate(self):
-        part = """part "waits" bash -c 'trap "echo ended >>$1/log; exit" TERM; echo began >>$1/log; while :; do sleep 0.01; done' part "$work" """
+        """The gate waits for it, so that it leaves nothing."""
+        ends = "sleep 0.5; echo ended >>$1/log; exit"
+        part = f"""part "waits" bash -c 'trap "{ends}" TERM; echo began >>$1/log; while :; do sleep 0.01; done' part "$work" """
         wait = 'until [ -e "$work/log" ]; do sleep 0.01; done\nexit 5'
         status, _, work = self.played(f"{part}\n{wait}")
-        self.assertEqual(status, 5)
-        said, end = "", time.monotonic() + 600
-        while said != "began\nended\n" and time.monotonic() < end:
-            time.sleep(0.01)
-            with open(f"{work}/log", encoding="ascii") as it:
-                said = it.read()
-        self.assertEqual(said, "began\nended\n")
+        with open(f"{work}/log", encoding="ascii") as it:
+            self.assertEqual((status, it.read()), (5, "began\nended\n"))
 
     def test_one_part_at_a_time_installs_packages(self):
         with tempfile.TemporaryDirectory() as tools:

@@ -480,7 +480,7 @@ def each_start(name, is_right, *words):
 
 def starts():
     """A run and a mount. Once the program of a run has begun, it hears of what is refused later."""
-    keep, at = ("--control", "--keep", "memory,cpu,io,cpuset"), tempfile.mkdtemp()
+    keep, at, odd = ("--control", "--keep", "memory,cpu,io,cpuset"), tempfile.mkdtemp(), []
 
     def of_run(refused, *got):
         heard = refused and got[0] == 1 and b"cat: /proc/self/cgroup: Cannot allocate memory" in got[2]
@@ -489,12 +489,15 @@ def starts():
     def of_mount(_, *got):
         """A mount that is there works."""
         names = got[0] == 0 and outcome(lambda: (os.mkdir(at + "/a"), sorted(os.listdir(at + "/a")))[1][:1])
+        if names not in (False, ["cgroup.controllers"]):
+            odd.append(names)
         while " %s " % at in open("/proc/self/mounts").read():
             subprocess.run(["fusermount3", "-u", at], stderr=subprocess.DEVNULL)
         return (*got, names) == (0, b"", b"", ["cgroup.controllers"])
 
     each_start("a run", of_run, "run", *keep, "cat", "/proc/self/cgroup")
     each_start("a mount", of_mount, "mount", *keep, at)
+    same("what mounts that began answered else", odd, [])
     os.rmdir(at)
 
 
