@@ -110,9 +110,8 @@ class Gates(unittest.TestCase):
 
     @staticmethod
     def rest(session):
-        """Until all that a gate has started sleeps. A signal that comes just as bash 5.2 begins to wait may be lost, and an interrupt that it
-        ignores then comes again without end: a backtrace showed it in wait_sigint_handler, before wait_for knew the earlier handler.
-        """
+        """Until all that a gate has started sleeps. A signal that comes just as bash 5.2 begins to wait may be lost. An interrupt that it
+        ignores then comes again without end: a backtrace showed its handler before the earlier one was known."""
         looks, end = [], time.monotonic() + PATIENCE
         while not looks[-5:] == 5 * looks[-1:] != [] and time.monotonic() < end:
             time.sleep(0.05)
