@@ -7,6 +7,7 @@ import (
 	"os"
 	"os/exec"
 	"path/filepath"
+	"reflect"
 	"regexp"
 	"strings"
 	"syscall"
@@ -77,6 +78,31 @@ func TestHowABufferGrows(t *testing.T) {
 		if got := grown(row[0], row[1]); got != row[2] {
 			t.Errorf("%d of %d: %d, not %d", row[1], row[0], got, row[2])
 		}
+	}
+}
+
+// Two goroutines may make an answer longer between three calls.
+func TestABufferGrowsUntilTheAnswerFits(t *testing.T) {
+	c := newCall()
+	defer c.end()
+	told, asked := reflect.ValueOf(c.told), 0
+	of := told.Type().In(1) // a function of C's type, which a test can't name
+	do := reflect.MakeFunc(of, func([]reflect.Value) []reflect.Value {
+		const tooSmall, done = 3, 0
+		status := tooSmall
+		switch asked++; asked {
+		case 1:
+			c.info.needed = 600
+		case 2:
+			c.info.needed = 700
+		default:
+			status, c.info.len = done, 700
+		}
+		return []reflect.Value{reflect.ValueOf(status).Convert(of.Out(0))}
+	})
+	got := told.Call([]reflect.Value{reflect.Zero(told.Type().In(0)), do})
+	if asked != 3 || got[0].Len() != 700 || !got[1].IsNil() {
+		t.Errorf("asked %d times: %d bytes, %v", asked, got[0].Len(), got[1])
 	}
 }
 
