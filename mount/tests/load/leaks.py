@@ -84,7 +84,8 @@ def of_mount():
 
     def removed():
         os.mkdir(h + "/r")
-        os.setxattr(h + "/r", "user.x", b"x" * 99)
+        for name in ("user.x", "user.y"):
+            os.setxattr(h + "/r", name, b"x" * 500)
         for name in ("procs", "events", "stat", "type", "freeze", "max.depth"):  # more than memory that was free before
             os.chmod(h + "/r/cgroup." + name, 0o600)
         fd = os.open(h + "/r/cgroup.events", os.O_RDONLY)

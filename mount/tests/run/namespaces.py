@@ -1333,6 +1333,43 @@ def replaced():
         os.close(w)
 
 
+class Rooted:
+    """A process whose cgroup namespace begins at its group, and the number of that namespace."""
+
+    def __init__(self, group):
+        (orders, self.asks), (self.told, answers) = os.pipe(), os.pipe()
+        os.makedirs(AT + group, exist_ok=True)
+        self.pid = os.fork()
+        if self.pid == 0:
+            into(group)
+            libc.unshare(CLONE_NEWCGROUP)
+            os.write(answers, b"%20d" % os.stat("/proc/self/ns/cgroup").st_ino)
+            while os.read(orders, 1):
+                os.write(answers, b"%20s" % read("/proc/self/cgroup").strip())
+        self.number = int(os.read(self.told, 20))
+
+    def group(self):
+        os.write(self.asks, b"x")
+        return os.read(self.told, 20).strip()
+
+    def end(self):
+        os.kill(self.pid, signal.SIGKILL)
+        os.waitpid(self.pid, 0)
+
+
+def numbered_again():
+    """The kernel gives the number of a namespace that ended to a new one: the others keep their roots."""
+    later = [Rooted("/a")]
+    while len(later) < 60 and later[-1].number >= later[-2:][0].number:
+        low, high = sorted((Rooted("/a"), Rooted("/b")), key=lambda it: it.number)
+        low.end()
+        later += [high, Rooted("/c")]
+    step("a new one has a lower number than one before it", later[-1].number < later[-2].number, len(later))
+    same("each is where its namespace begins", {it.group() for it in later}, {b"0::/"})
+    for it in later:
+        it.end()
+
+
 def apart():
     """Outside: mounts that are made on the machine later are not seen in a run, also where mounts are shared."""
     home = tempfile.mkdtemp()
@@ -1375,6 +1412,7 @@ INSIDE = (
     configured,
     kept_apart,
     replaced,
+    numbered_again,
 )
 KERNEL = (born, numbered, over, configured)
 OPTIONS = {
