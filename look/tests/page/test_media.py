@@ -181,6 +181,8 @@ def test_bars_are_visible_in_forced_colours(media, scheme):
     assert pressed not in (plain, back)
     borders = "return [...document.querySelectorAll('#tree .row')].map((row) => [row.classList.contains('changed'), getComputedStyle(row).borderLeftStyle])"
     assert {tuple(it) for it in b.run(borders)} == {(True, "double"), (False, "none")}
+    grid = b.run(LOOKS, [(".grid", "stroke-dasharray"), (".grid", "stroke"), ("body", "color")])
+    assert grid[0] == "1px, 5px" and grid[1] != grid[2], "its lines are weaker than those of a plot"
 
 
 # ---- low and narrow screens
