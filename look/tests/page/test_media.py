@@ -290,3 +290,26 @@ def test_paper_has_bars_and_no_controls(media, scheme):
     assert not b.run(OVERLAPS)
     whole = "return ['list', 'tree', 'answer', 'plots'].filter((id) => { const it = document.getElementById(id); return it.scrollHeight > it.clientHeight + 1; })"
     assert b.run(whole) == [], "nothing is cut"
+
+
+# ---- the style
+
+# What the page shows only after a choice: a life of a process, a tip at a mark, a list that is cut.
+AFTER_A_CHOICE = {"#more a", ".life", ".name > .end", ".rest", ".sample"}
+# The selectors of the style that nothing on the page has now.
+UNUSED = r"""
+const all = (rules) => [...rules].flatMap((it) => (it.media ? all(it.cssRules) : it.selectorText ? it.selectorText.split(",") : []));
+const states = /:(focus-visible|hover|disabled)|::[a-z-]+/g;
+return all(document.styleSheets[0].cssRules).map((it) => it.replace(states, "").trim()).filter((it) => it && !document.querySelector(it));
+"""
+
+
+def test_each_rule_of_the_style_is_of_something_on_the_page(media):
+    b = media()
+    b.type("#query", "batch")
+    b.click("#before")
+    unused = set(b.run(UNUSED))
+    for line in range(1, int(b.run("return document.getElementById('slider').max")) + 1):
+        b.run("location.hash = '#line=' + arguments[0]", line)
+        unused &= set(b.run(UNUSED))
+    assert unused == AFTER_A_CHOICE
