@@ -94,6 +94,12 @@ class Style(unittest.TestCase):
             told = [f"{name}: what it names is not in its form", "4 passed, 1 failed"]
             self.assertEqual(self.style(), (1, told, ALL), name)
             os.remove(f"{self.top}/status/{name}")
+        for name in ("black", "shellcheck"):
+            self.write(f"status/{name}", "")
+        told = [f"{name}: what it names is not in its form" for name in ("black", "shellcheck")]
+        self.assertEqual(self.style(), (1, [*told, "3 passed, 2 failed"], ALL))
+        for name in ("black", "shellcheck"):
+            os.remove(f"{self.top}/status/{name}")
         self.write("says/gofmt", "d.go\n")
         self.assertEqual(
             self.style()[:2], (1, ["d.go", "gofmt: what it names is not in its form", "4 passed, 1 failed"])
