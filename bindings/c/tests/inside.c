@@ -55,6 +55,8 @@ static int not_refused(void)
 {
 	mk_handle fresh = { 0 };
 	mk_info told;
+	mk_text one;
+	char text[8];
 	size_t depth = 0;
 	if (mk_open(&fresh) != MK_BUSY || !is_closed(&fresh))
 		return 1;
@@ -64,6 +66,8 @@ static int not_refused(void)
 		return 3;
 	if (mk_mkdir(&other, "/b", &told) != MK_BUSY || told.error != EDEADLK)
 		return 4;
+	if (mk_read_many(&other, "/b\0pids.max", 1, &one, text, sizeof text, &told) != MK_BUSY || told.error != EDEADLK)
+		return 7;
 	return mk_depth(&other, &depth) != MK_BUSY ? 5 : 0;
 }
 

@@ -1,5 +1,6 @@
 """Arguments of a wrong type or out of range are refused by the errors that Python has for them, and change nothing."""
 
+import enum
 import errno
 import math
 import threading
@@ -42,6 +43,17 @@ def test_what_is_no_number_is_a_type_error(h, wrong):
         with pytest.raises(TypeError):
             call()
     assert h.clear_faults() == 0 and h.depth() == 2
+
+
+def test_a_number_of_another_class_is_a_number(h):
+    class Limits(enum.IntEnum):
+        FEW = 5
+
+    h.write("/a", "pids.max", Limits.FEW)
+    assert h.limit("/a") == 5
+    h.fork(1, Limits.FEW)
+    h.write("/a", "cgroup.procs", Limits.FEW)
+    assert h.where(Limits.FEW) == "0::/a\n"
 
 
 @pytest.mark.parametrize("file", ["pids.max", "cgroup.procs", "cgroup.kill", "cgroup.max.depth"])

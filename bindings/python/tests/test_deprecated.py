@@ -18,10 +18,11 @@ def test_fail_with_an_errno_by_position(hierarchy, words, more):
     assert failed.value.errno == errno.EIO and hierarchy.clear_faults() == 0
 
 
-def test_fail_with_an_nth_by_position(hierarchy):
+@pytest.mark.parametrize("words, more", [((errno.EIO, 2), {}), ((errno.EIO,), {"nth": 2})])
+def test_fail_with_an_nth_after_an_errno_by_position(hierarchy, words, more):
     hierarchy.mkdir("/a")
     with pytest.warns(DeprecationWarning):
-        hierarchy.fail("/a", errno.EIO, 2)
+        hierarchy.fail("/a", *words, **more)
     assert hierarchy.read("/a", "pids.max") == "max\n"
     with pytest.raises(OSError):
         hierarchy.read("/a", "pids.max")

@@ -1,5 +1,7 @@
 """The page's controls in a real browser: names, the state before a line, refusals of a group, and the focus."""
 
+import re
+
 import pytest
 from demo import demo
 from webdriver import is_there, row_of
@@ -42,6 +44,7 @@ def test_buttons_have_names(shown):
     assert all(any(letter.isascii() and letter.isalpha() for letter in name) for name in buttons)
     assert names(b, "combobox") == ["commands a second"]
     assert "batch: pids.current 8, pids.max 8, pids.peak 8, refused here 1, in all 1" in names(b, "treeitem")
+    assert any(re.fullmatch(r"system: pids.current \d+, pids.max max, .*", name) for name in names(b, "treeitem"))
 
 
 def test_a_step_and_playing_have_signs_of_their_own(shown):
