@@ -177,6 +177,7 @@ def options():
     same("--help", (status, said, ran("-h")), (0, "", (0, text, "")))
     of_options = [line for line in text.split("\n") if line.startswith("  ")]
     same("lines that leave their columns", [it for it in of_options if it[17] != " " or "  " in it[18:] + it[18]], [])
+    same("lines that are too long", [line for line in text.split("\n") if len(line) > 140], [])
     helped(text)
     for (
         option
