@@ -219,6 +219,10 @@ class Names(unittest.TestCase):
         for text in ("It is in pids.events.", "a/pids.events", "(pids.events)", "pids.events, pids.max"):
             self.assertTrue(names.pattern_of(["pids.events"]).search(text), text)
 
+    def test_no_letter_of_a_name_stands_for_others(self):
+        self.assertFalse(names.pattern_of(["pids.events"]).search("pids_events"))
+        self.assertTrue(names.pattern_of(["fork(1"]).search("a fork(1, 2)"))
+
     def test_files_and_folders_of_a_name(self):
         texts = dict.fromkeys(("a/tests/one.py", "a/tests/two.py", "b/tests/x/three.py", "c/tests.py"), "")
         self.assertEqual(names.files_named("tests", texts), ["a/tests/ 2 files", "b/tests/ 1 file", "c/tests.py"])
