@@ -4,10 +4,12 @@
 #include <stddef.h>
 #include <sys/prctl.h>
 #include <sys/resource.h>
+#include <sys/wait.h>
 #include <unistd.h>
 
-/* A run's supervisor has three: companion, server and helper. */
-enum { MOST = 4 };
+/* A run's supervisor has three: companion, server and helper. PATIENCE: how often the ends of all that were killed are looked for, every
+   millisecond. */
+enum { MOST = 4, PATIENCE = 2000 };
 
 /* The children that were not waited for. 0 is a free place. Only the process that made them uses
    it, in one thread. */
@@ -78,4 +80,13 @@ void own_processes_kill(pid_t child)
 	for (size_t i = 0; i < MOST; i++)
 		if (child > 0 && all[i] == child)
 			kill(child, SIGKILL); /* it cannot fail: a child that was not waited for has its number */
+}
+
+/* One whose thread waits in a file system that does not answer has not ended: it is left to the next parent. */
+void own_processes_wait(void)
+{
+	int tries = 0;
+	for (size_t i = 0; i < MOST; i++)
+		while (all[i] && waitpid(all[i], NULL, WNOHANG) == 0 && tries++ < PATIENCE)
+			usleep(1000); /* killed processes end soon */
 }

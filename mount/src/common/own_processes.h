@@ -26,5 +26,8 @@ void own_processes_add(pid_t child);
 void own_processes_gone(pid_t child);
 /* Kills it, unless it was waited for. */
 void own_processes_kill(pid_t child);
+/* After all were killed, at the end of the process that made them: waits for those that were not waited for, at most two seconds. The
+   machine's init may wait for none. */
+void own_processes_wait(void);
 
 #endif

@@ -58,6 +58,16 @@ ssize_t proc_status_text(const char *path, char *out, size_t size)
 	return fd < 0 || n < 0 ? -errno : (ssize_t)done;
 }
 
+/* The link has the number of its reader in the namespace for which /proc was mounted. */
+bool proc_status_is_ours(void)
+{
+	char number[16];
+	pid_t self = getpid(); /* -1: a sandbox refuses it, which another message says */
+	ssize_t n = readlink("/proc/self", number, sizeof number - 1);
+	number[n > 0 ? n : 0] = 0;
+	return n < 0 || self < 0 || strtol(number, NULL, 10) == self;
+}
+
 /* The copy needs the right to mount, which the processes of a run have in their namespace. Without
    that right /proc itself is used. */
 bool proc_status_enter(void)

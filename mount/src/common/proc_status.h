@@ -6,6 +6,8 @@
 #include <stddef.h>
 #include <sys/types.h>
 
+/* False if /proc is that of another PID namespace than this process's, where numbers are those of others. True without /proc. */
+bool proc_status_is_ours(void);
 /* Makes /proc the working directory of this process. With --root the program may mount something over /proc, so it is a copy of
    the mount, which no other process has. */
 bool proc_status_enter(void);

@@ -5,6 +5,7 @@
 #include "common/proc_status.h"
 #include <errno.h>
 #include <fcntl.h>
+#include <limits.h>
 #include <signal.h>
 #include <stdio.h>
 #include <string.h>
@@ -25,14 +26,50 @@ struct mounted {
 	struct mount_id is;
 };
 
+/* Up to the next blank; a table of mounts has three octal digits for some bytes. Cut to the room. */
+static void read_path(const char *from, char out[PATH_MAX])
+{
+	size_t n = 0;
+	while (*from && *from != ' ' && n + 1 < PATH_MAX) {
+		unsigned byte = (unsigned char)*from;
+		from += *from == '\\' && sscanf(from, "\\%3o", &byte) == 1 ? 4 : 1;
+		out[n++] = (char)byte;
+	}
+	out[n] = 0;
+}
+
+/* Where the mount is now: a folder above it may have another name. False if it is nowhere, or the table can't be read. */
+static bool find_place(const struct mounted *m, char place[PATH_MAX])
+{
+	cleanup_stream FILE *table = m->is_known ? fopen("self/mountinfo", "re") : NULL;
+	cleanup_free char *line = NULL;
+	size_t room = 0;
+	struct mount_id found;
+	while (table && getline(&line, &room, table) > 0) {
+		int at = 0, n = sscanf(line, "%llu %*u %u:%u %*s %n", &found.mount, &found.major, &found.minor, &at);
+		if (n == 3 && at && beneath_is_same_mount(&found, &m->is)) {
+			read_path(line + at, place);
+			return true;
+		}
+	}
+	return false;
+}
+
 /* The root of the mount, if that is what is mounted there; -1. This may wait for whatever file
    system is mounted there by now. */
-static int look_up(const struct mounted *m)
+static int look_up_at(const struct mounted *m, const char *at)
 {
 	struct mount_id found;
-	cleanup_fd int root = open(m->at, O_PATH | O_DIRECTORY | O_CLOEXEC);
+	cleanup_fd int root = open(at, O_PATH | O_DIRECTORY | O_CLOEXEC);
 	bool is_it = root >= 0 && m->is_known && beneath_identify(root, &found) && beneath_is_same_mount(&found, &m->is);
 	return is_it ? steal_fd(&root) : -1;
+}
+
+static int look_up(const struct mounted *m)
+{
+	char place[PATH_MAX];
+	int root = look_up_at(m, m->at);
+	return root < 0 && find_place(m, place) ? look_up_at(m, place) : root;
 }
 
 /* The longest path of a group has no room for the name of a file behind it, so the group is opened first. -1 with errno. */
@@ -70,9 +107,11 @@ static void touch(const struct mounted *m, const char *path)
 
 /* The server has ended. If it was killed, its mount is still there and answers nobody. Any other
    mount stays. ENOTCONN is what a mount answers whose server has ended. */
-static void take_away(const char *mountpoint)
+static void take_away(const struct mounted *m)
 {
+	char place[PATH_MAX];
 	struct stat st;
+	const char *mountpoint = find_place(m, place) ? place : m->at;
 	if (stat(mountpoint, &st) == 0 || (errno != ENOTCONN && errno != ECONNABORTED))
 		return;
 	/* Others may use it: it goes once nobody does. Without the right to unmount, fusermount3 has
@@ -98,7 +137,7 @@ static void serve(int from, struct mounted *m)
 		}
 	}
 	if (m->root < 0)
-		take_away(m->at);
+		take_away(m);
 }
 
 /* A reader that waits for the end of the program's output must not wait for this process; and a

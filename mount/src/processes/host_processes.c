@@ -267,6 +267,12 @@ int host_processes_sweep(void)
 	return way == ADOPTED && adopted_count ? sweep_adopted() : 0;
 }
 
+/* Of this process or of the machine: whoever has the number may be there. */
+static bool is_lack(int fault)
+{
+	return fault == -ENOMEM || fault == -EMFILE || fault == -ENFILE;
+}
+
 /* 0 without --adopt: the engine alone decides about a number. */
 int host_processes_adopt(pid_t pid, bool *is_new)
 {
@@ -276,22 +282,24 @@ int host_processes_adopt(pid_t pid, bool *is_new)
 		return run_processes_move(pid);
 	if (way != ADOPTED || pid == PROCESS_ONE)
 		return 0;
-	if (is_known(pid) && !has_ended(pid)) {
-		/* It was to leave, and is wanted again. */
-		if (process_at(pid)->life == DISOWNED)
-			process_at(pid)->life = LIVE;
+	bool was_known = is_known(pid) && !has_ended(pid);
+	/* It was to leave, and is wanted again. */
+	if (was_known && process_at(pid)->life == DISOWNED)
+		process_at(pid)->life = LIVE;
+	/* Whom a kill has reached does not come back. */
+	if (was_known && process_at(pid)->life == DYING)
 		return 0;
-	}
 	int fault = engine_where(pid, group, sizeof group);
 	if (fault != -ESRCH)
 		return fault;
 	if (has_ended(pid))
 		return 1;
-	fault = remember(pid);
+	/* One that is known has left by an undo or an exit, or a limit has refused its birth. */
+	fault = was_known ? 0 : remember(pid);
 	if (fault)
-		return fault == -ENOMEM ? fault : -ESRCH;
+		return is_lack(fault) ? fault : -ESRCH;
 	fault = engine_line("fork %d %d", PROCESS_ONE, pid);
-	if (fault)
+	if (fault && !was_known)
 		drop_adopted(pid);
 	*is_new = fault == 0;
 	return fault;

@@ -270,6 +270,7 @@ int run_processes_born(unsigned reservation, pid_t child, bool *frozen)
 	const struct reservation *r = reservations_find(reservation);
 	if (!r)
 		return -EAGAIN;
+	bool is_first = r->parent == 0;
 	int fault = tell(r, child, frozen);
 	reservations_drop(reservation);
 	/* All other errnos are those of a device that could not keep the line. */
@@ -277,7 +278,7 @@ int run_processes_born(unsigned reservation, pid_t child, bool *frozen)
 		return fault;
 	trace_may_be_full = true;
 	allow_none();
-	return -EAGAIN;
+	return is_first ? fault : -EAGAIN; /* of the first process a message tells, of others the errno of a fork */
 }
 
 /* Nobody waits for a thread. So it leaves the hierarchy at once. If the line can't be kept, it

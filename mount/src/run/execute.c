@@ -25,12 +25,13 @@ static bool is_on_path(const char *name)
 	return false;
 }
 
-/* execvp fails with EACCES too if one of the folders may not be searched. A shell then says that it found nothing. */
+/* execvp fails with EACCES too if one of the folders may not be searched, and with ENOTDIR if the last is a file. A shell then says that
+   it found nothing. */
 int execute(const char *name, char **words)
 {
 	/* It returns only if it fails. */
 	execvp(name, words);
-	if (errno == EACCES && !strchr(name, '/'))
+	if ((errno == EACCES || errno == ENOTDIR) && !strchr(name, '/'))
 		errno = is_on_path(name) ? EACCES : ENOENT;
 	return errno;
 }

@@ -1,6 +1,7 @@
 #include "common/cleanup.h"
 #include "common/group_paths.h"
 #include "common/message.h"
+#include "common/proc_status.h"
 #include "run/run.h"
 #include <fcntl.h>
 #include <limits.h>
@@ -42,6 +43,10 @@ bool inherited_files_let_go(void)
 {
 	char link[40];
 	struct dirent *entry;
+	if (!proc_status_is_ours()) {
+		say("/proc is that of another PID namespace");
+		return false;
+	}
 	/* not ".", which needs the permission to search it */
 	int folder = open("/proc/self/cwd", O_PATH | O_CLOEXEC), fault = errno;
 	is_in_groups = is_of_groups(folder, "/proc/self/cwd");

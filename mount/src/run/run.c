@@ -243,12 +243,16 @@ static int supervise(char **program, const struct wishes *wishes, int signals, i
 		return give_up(pid, NULL); /* it has said why */
 	/* traced before it has its filter: a call that the filter sends to no tracer fails with ENOSYS */
 	if (!proc_status_enter() || pid < 0 || !tracer_hold(pid)) {
-		snprintf(why, sizeof why, "this machine does not allow a process %s: %s", pid < 0 ? "more" : "to be traced",
-			strerror(errno));
+		snprintf(why, sizeof why, "this machine does not allow %s: %s",
+			pid < 0 ? "another process" : "a process to be traced", strerror(errno));
 		if (pid >= 0)
 			return give_up(pid, why);
 		say("%s", why);
 		return REFUSED_HERE;
+	}
+	if (!births_first(pid)) {
+		snprintf(why, sizeof why, "the line of the first process cannot be kept: %s", strerror(errno));
+		return give_up(pid, why);
 	}
 	/* The listener comes as soon as the filter is installed. */
 	int listener;
@@ -389,5 +393,6 @@ int run_program(char **program, const struct wishes *asked)
 	mount_root_end();
 	own_processes_kill(companion); /* its descriptor would keep the mount in use */
 	end_server(server, ends[0]);
+	own_processes_wait();
 	return status;
 }

@@ -10,6 +10,7 @@
 #include <errno.h>
 #include <limits.h>
 #include <number_parser.h>
+#include <signal.h>
 #include <stdio.h>
 #include <stdlib.h>
 #include <string.h>
@@ -161,6 +162,9 @@ static int read_where(struct where w, int (*keep)(void *, const char *, size_t),
 	int fault = w.process ? engine_where(w.process, group, sizeof group) : 0;
 	if (fault == -ENOMEM)
 		return fault;
+	/* The engine has one that was waited for until the next operation, and has none of the machine's others. */
+	if (w.process && kill(w.process, 0) && errno == ESRCH)
+		return -ESRCH;
 	seen_from(root, group, seen);
 	int size = snprintf(text, sizeof text, "0::%s\n", w.process ? seen : root);
 	return keep(to, text, (size_t)size);

@@ -1,5 +1,7 @@
 #include "server/serve.h"
+#include "common/cleanup.h"
 #include "common/message.h"
+#include "common/proc_status.h"
 #include "engine/engine.h"
 #include "processes/host_processes.h"
 #include "server/group_state.h"
@@ -50,6 +52,10 @@ bool serve_prepare(const struct wishes *wishes)
 {
 	if (wishes->keep && !controllers_keep(wishes->keep)) {
 		say("--keep takes memory, cpu, io and cpuset, with commas between");
+		return false;
+	}
+	if (wishes->adopt && !proc_status_is_ours()) {
+		say("/proc is that of another PID namespace");
 		return false;
 	}
 	/* Before the mount: afterwards the server looks up no path. */
@@ -245,6 +251,21 @@ static void tell_starter(void)
 		close(null);
 }
 
+/* Who waits for the end of one, or for a lock on one, must not wait for this process either. Those of makhloeum itself end with an
+   execve, and so differ. False without memory; without /proc they stay open. */
+static bool close_inherited(void)
+{
+	struct dirent *entry;
+	cleanup_directory DIR *all = opendir("/proc/self/fd");
+	bool has_memory = all || errno != ENOMEM;
+	while (all && (entry = readdir(all))) {
+		int fd = (int)strtol(entry->d_name, NULL, 10); /* 0 for the two dots */
+		if (fd > STDERR_FILENO && (fcntl(fd, F_GETFD) & FD_CLOEXEC) == 0)
+			close(fd);
+	}
+	return has_memory;
+}
+
 /* The starter's part: it ends once the mount is in place, or with the status of the process that failed. */
 /* The caller's shell goes on only once the mount is in place, or learns that it is not. */
 static int wait_for(pid_t server, int from)
@@ -305,6 +326,11 @@ int mount_directory(const char *directory, const struct wishes *wishes)
 	}
 	if (!serve_prepare(wishes))
 		return REFUSED;
+	/* only now: the path of a trace may name one */
+	if (!wishes->foreground && !close_inherited()) {
+		say("out of memory");
+		return REFUSED;
+	}
 	if (!watch_begin(whole, -1)) {
 		say("a process cannot be started: %s", strerror(errno));
 		return REFUSED;

@@ -101,10 +101,13 @@ bool births_first(pid_t program)
 {
 	unsigned reservation;
 	struct thread *t = threads_add(program, program);
-	if (!t || link_reserve(0, NULL, false, &reservation) || link_born(reservation, program, &t->frozen))
-		return false;
-	t->started = t->counted = true;
-	return true;
+	int fault = t ? link_reserve(0, NULL, false, &reservation) : -ENOMEM;
+	if (fault == 0)
+		fault = link_born(reservation, program, &t->frozen);
+	if (fault == 0)
+		t->started = t->counted = true;
+	errno = -fault;
+	return fault == 0;
 }
 
 bool births_is_fork(long number)

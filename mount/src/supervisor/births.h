@@ -12,7 +12,7 @@
 
 /* Before the first process: whether threads count. */
 void births_count_threads(bool count);
-/* The first process; false if it cannot be recorded. */
+/* The first process, which is traced; false with errno if it cannot be recorded. */
 bool births_first(pid_t program);
 bool births_is_fork(long number);
 /* A thread is at the stop before such a call. It may wait for the server, and never for the

@@ -8,7 +8,6 @@
 #include "supervisor/signals.h"
 #include "supervisor/threads.h"
 #include "supervisor/tracee.h"
-#include <errno.h>
 #include <signal.h>
 #include <sys/ptrace.h>
 #include <sys/syscall.h>
@@ -23,14 +22,10 @@ static pid_t program;
 static int program_status;
 static bool program_ended;
 
-/* births_first fails without an errno, for lack of memory or of an answer: then it is EAGAIN. */
 bool tracer_hold(pid_t pid)
 {
 	program = pid;
-	if (!tracee_attach(pid))
-		return false;
-	errno = EAGAIN;
-	return births_first(pid);
+	return tracee_attach(pid);
 }
 
 /* ---------------------------------------------------------------- calls that a signal interrupts although no handler runs */

@@ -126,7 +126,7 @@ def times():
 def full_trace_of_a_run():
     """Its first process has no line, so the server does not take it."""
     ran = subprocess.run([PROGRAM, "run", "--trace", "/dev/full", "true"], stderr=subprocess.PIPE, timeout=PATIENCE)
-    why = b"makhloeum: this machine does not allow a process to be traced: Resource temporarily unavailable\n"
+    why = b"makhloeum: the line of the first process cannot be kept: No space left on device\n"
     same("a run whose first line cannot be kept", (ran.returncode, ran.stderr), (2, why))
 
 

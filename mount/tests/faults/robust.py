@@ -161,6 +161,24 @@ def ended_while_open(how, name):
     error_of(os.close, fd)
 
 
+def moved():
+    """A folder above the mount has another name: a watch is told all the same, and a killed server leaves no mount."""
+    m = Mount()
+    os.mkdir(m.path("a"))
+    home = m.home + " \\\t\n#"  # a table of mounts shows these by their numbers
+    os.rename(m.home, home)
+    at = home + "/at"
+    watch = libc.inotify_init()
+    libc.inotify_add_watch(watch, (at + "/a/cgroup.events").encode(), 2)  # IN_MODIFY
+    write(at + "/a/cgroup.procs", b"1")
+    same("a watch is told", (Beside(os.read, watch, 100).result() or b"")[4:8], b"\2\0\0\0")
+    os.close(watch)
+    m.process.kill()
+    m.process.wait()
+    step("the mount is gone", until(lambda: error_of(os.listdir, at) == "ok" and not os.path.ismount(at)))
+    shutil.rmtree(home)
+
+
 def killed_under_load():
     m = Mount()
     errors = []
@@ -506,6 +524,7 @@ for test, args in (
     (ended_while_open, (signal.SIGTERM, "SIGTERM")),
     (ended_while_open, (signal.SIGKILL, "SIGKILL")),
     (ended_alone, ()),
+    (moved, ()),
     (killed_under_load, ()),
     (bad_lines, ()),
     (subcommands, ()),

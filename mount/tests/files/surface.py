@@ -394,7 +394,8 @@ def hidden():
         ("%d.0" % me, "0::/\n"),
         ("%d" % me, "0::/\n"),
         ("0.0", "0::/\n"),
-        ("4194303.4294967295", "0::/\n"),
+        ("%d.4294967295" % me, "0::/\n"),
+        ("4194303.4294967295", "ESRCH"),
         ("4194304.0", None),
         ("99999999999999999999.0", None),
         ("1.4294967296", None),
@@ -413,7 +414,8 @@ def hidden():
         ("t.x", None),
     ):
         path = AT + "/.makhloeum." + name
-        got = read(path).decode() if os.path.exists(path) else None
+        fault = error_of(read, path)
+        got = None if fault == "ENOENT" else read(path).decode() if fault == "ok" else fault
         if got != text or os.path.exists(AT + "/g/.makhloeum." + name):
             wrong.append((name, got, text))
     same("which there are by name", wrong, [])

@@ -866,8 +866,15 @@ def own_line(*files):
     return ran.stdout.decode().split()
 
 
+def keeps_inside(at):
+    """Whether no process may leave the root of its namespace: the machine's cgroup2 has nsdelegate, as systemd mounts it."""
+    mounts = [line.split() for line in open("/proc/self/mounts")]
+    return any(at.startswith(m[1] + "/") and m[2] == "cgroup2" and "nsdelegate" in m[3].split(",") for m in mounts)
+
+
 def born(at=AT):
     """A clone3 into a group and a new namespace: the namespace begins at that group, not at its creator's."""
+    leaves = not keeps_inside(at)
     for g in ("/a", "/b", "/b/c"):
         os.mkdir(at + g)
     write(at + "/a/cgroup.procs", b"0")
@@ -878,14 +885,16 @@ def born(at=AT):
     if pid == 0:
         for group in (None, "/b/c", "/a", "/b"):
             if group:
-                write(at + group + "/cgroup.procs", b"0")
+                os.write(w, error_of(write, at + group + "/cgroup.procs", b"0").encode() + b" ")
             os.write(w, next(x for x in read("/proc/self/cgroup").splitlines(True) if x.startswith(b"0::")))
         os.close(w)
         os.read(may_end, 1)
         os._exit(0)
     os.close(w)
     said = b"".join(iter(lambda: os.read(r, 999), b""))
-    same("what it sees, also once it has moved", said.split(), [b"0::/", b"0::/c", b"0::/../a", b"0::/"])
+    to_outside = b"ok 0::/../a" if leaves else b"ENOENT 0::/c"
+    wanted = [b"0::/", b"ok 0::/c", to_outside, b"ok 0::/"]
+    same("what it sees, also once it has moved", said.splitlines(), wanted)
     same("what is seen from outside", own_line("/proc/%d/cgroup" % pid), ["0::%s/b" % top_of(at)])
     same("the creator's own", own_line("/proc/self/cgroup"), ["0::%s/a" % top_of(at)])
     os.write(end, b"x")

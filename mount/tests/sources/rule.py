@@ -49,8 +49,9 @@ MOST_INCLUDES, MOST_FILES, MOST_COMMON = 12, 40, 20
 CALLS = """open openat openat2 creat fopen freopen opendir readdir stat lstat fstatat statx statfs fstatfs access faccessat readlink
 readlinkat realpath truncate mkdir rmdir unlink rename link symlink chmod chown chdir fchdir mount umount2 getxattr setxattr listxattr
 inotify_add_watch execve execvp execlp process_vm_readv process_vm_writev program_memory_read program_memory_text program_memory_write
-proc_status_line proc_status_number proc_status_text proc_status_enter beneath_open mount_root_open mount_root_group_of path_lookup_find
-path_lookup_process_of path_lookup_is_own path_lookup_seen_from machine_read usleep sleep nanosleep""".split()
+proc_status_is_ours proc_status_line proc_status_number proc_status_text proc_status_enter beneath_open mount_root_open
+mount_root_group_of path_lookup_find path_lookup_process_of path_lookup_is_own path_lookup_seen_from machine_read own_processes_wait
+usleep sleep nanosleep""".split()
 SYSCALLS = "SYS_open SYS_openat SYS_openat2 SYS_open_tree SYS_move_mount SYS_statx"
 PTRACES = "PTRACE_PEEKTEXT PTRACE_PEEKDATA PTRACE_POKETEXT PTRACE_POKEDATA"
 WORDS = (SYSCALLS + " " + PTRACES).split()
@@ -59,7 +60,8 @@ ALLOWED = {
     "common/beneath.c": ("SYS_openat2", "calls of beneath_open are refused"),
     "common/kernel.h": ("statx", "of a descriptor: it sends no request to a file system"),
     "common/namespaces.c": ("stat", "in /proc, and only before Linux 6.11"),
-    "common/proc_status.c": ("open chdir fchdir SYS_open_tree", "calls of its functions are refused"),
+    "common/own_processes.c": ("usleep", "calls of own_processes_wait are refused"),
+    "common/proc_status.c": ("open readlink chdir fchdir SYS_open_tree", "calls of its functions are refused"),
     "engine/trace_file.c": ("open unlink", "before the mount"),
     "values/machine.c": (
         "opendir readdir faccessat proc_status_text",
@@ -70,7 +72,10 @@ ALLOWED = {
         "/proc, with --adopt: then no supervisor waits for the server",
     ),
     "server/supervisor_questions.c": ("sleep", "the mount is being unmounted"),
-    "server/serve.c": ("open realpath stat access chdir machine_read", "before the mount"),
+    "server/serve.c": (
+        "open opendir readdir realpath stat access chdir machine_read proc_status_is_ours",
+        "before the mount",
+    ),
     "server/watch.c": ("open", "without a run, once it is mounted"),
     "supervisor/tracer.c": ("usleep", "at the end of the run, when all are killed"),
 }
