@@ -26,6 +26,7 @@ END = (
     "The status is 0 if there is no difference, 1 if there is one, and 2 if DIR cannot be checked, if the check was interrupted, "
     "if something in DIR could not be removed, or if standard output cannot be written."
 )
+SECONDS_MOST = 1_000_000  # of an option, so that each wait can take them
 _SHOWN_EVERY = 5.0  # seconds, where standard error is no terminal
 _ENDING = (signal.SIGINT, signal.SIGTERM, signal.SIGHUP)
 
@@ -60,6 +61,14 @@ class _Progress:
         return f"{counts.operations} operations, {counts.differences} differences, {counts.rate():.0f} a second"
 
 
+def seconds(word: str) -> float:
+    """A number of seconds of the command line."""
+    number = float(word)
+    if not 0 <= number <= SECONDS_MOST:
+        raise argparse.ArgumentTypeError(f"{word} is not from 0 to {SECONDS_MOST}")
+    return number
+
+
 def _arguments(words: list[str]) -> argparse.Namespace:
     parser = argparse.ArgumentParser(prog="makhloeum check", description=HELP, epilog=END, allow_abbrev=False)
     parser.add_argument("directory", metavar="DIR")
@@ -68,17 +77,19 @@ def _arguments(words: list[str]) -> argparse.Namespace:
     )
     parser.add_argument("--count", type=int, default=1000, metavar="N", help="play at least N operations in all (1000)")
     parser.add_argument(
-        "--time", type=float, metavar="SECONDS", help="end after this number of seconds, whatever the count"
+        "--time", type=seconds, metavar="SECONDS", help="end after this number of seconds, whatever the count"
     )
     parser.add_argument("--most", type=int, default=3, metavar="N", help="end after N kinds of differences (3)")
     parser.add_argument(
-        "--limit", type=float, default=10, metavar="SECONDS", help="an operation that takes longer hangs (10)"
+        "--limit", type=seconds, default=10, metavar="SECONDS", help="an operation that takes longer hangs (10)"
     )
     parser.add_argument(
-        "--shorten", type=float, default=30, metavar="SECONDS", help="time for making a difference short (30)"
+        "--shorten", type=seconds, default=30, metavar="SECONDS", help="time for making a difference short (30)"
     )
     parser.add_argument("--no-worked", action="store_true", help="only random sequences")
-    parser.add_argument("--quiet", action="store_true", help="no progress on standard error")
+    parser.add_argument(
+        "--quiet", action="store_true", help="no progress on standard error, and not which files are missing"
+    )
     return parser.parse_args(words)
 
 
@@ -112,10 +123,17 @@ class _Check:
                 return
             found = self._player.play(way, self._timed(following), self.counts)
             if found:
-                self.counts.differences += 1
-                self._show(name, found)
-            if found and found.hangs:
+                self._count(name, found)
+            if found and (found.hangs or found.is_beginning):
                 return
+
+    def _count(self, name: str, found: Difference) -> None:
+        self.counts.differences += 1
+        try:
+            self._show(name, found)
+        except Unusable:
+            self.counts.differences -= 1  # the directory was gone
+            raise
 
     def _timed(self, following: Next) -> Next:
         """Ends the sequence when the time is over."""
@@ -142,7 +160,9 @@ class _Check:
         self.counts.began += time.monotonic() - began  # the rate is that of what is counted
         self._kinds.add(short.kind())
         print(f"difference: {' '.join(short.played[-1])}: {'; '.join(explained(short))}")
-        made = "it did not show again" if short is found else f"made {len(short.played)}"
+        made = f"made {len(short.played)}"
+        if short is found:
+            made = "it did not show again" if self._options.shorten else "not made short"
         print(f"({name}; {len(found.played)} operations, {made})")
         print(
             "\n".join(shell_script(short, os.path.abspath(self._options.directory), self._has_control)) + "\n",
@@ -166,6 +186,13 @@ def _ignore_ending() -> None:
         signal.signal(number, signal.SIG_IGN)
 
 
+def _handle_ending() -> None:
+    """These signals interrupt the check, unless its caller ignores them, as nohup does."""
+    for number in _ENDING:
+        if signal.getsignal(number) != signal.SIG_IGN:
+            signal.signal(number, _interrupt)
+
+
 def _interrupt(number: int, frame: object) -> None:
     _ignore_ending()
     raise Interrupted
@@ -176,11 +203,13 @@ def _say(directory: str, what: str) -> None:
 
 
 def _checked(options: argparse.Namespace, player: Player) -> int:
-    check, interrupted = _Check(options, player), False
+    check, fault = _Check(options, player), ""
     try:
         check.run()
     except Interrupted:
-        interrupted = True
+        fault = "interrupted"
+    except Unusable as no:
+        fault = str(no)
     finally:
         _ignore_ending()
         player.close()
@@ -188,25 +217,24 @@ def _checked(options: argparse.Namespace, player: Player) -> int:
         for path in player.left:
             _say(options.directory, f"{path} could not be removed")
     print(check.told())
-    if interrupted:
-        _say(options.directory, "interrupted")
-    return 1 if check.counts.differences else 2 if interrupted or player.left else 0
+    if fault:
+        _say(options.directory, fault)
+    return 1 if check.counts.differences else 2 if fault or player.left else 0
 
 
 @writes("makhloeum check", failed=2)
 def main(words: list[str]) -> int:
     options = _arguments(words)
-    for number in _ENDING:
-        signal.signal(number, _interrupt)
     try:
+        _handle_ending()
         player = Player(options.directory, options.limit)
+        missing = player.found["missing"]
+        if missing and not options.quiet:
+            _say(options.directory, f"not there, and so not compared: {', '.join(missing)}")
+        return _checked(options, player)
     except Unusable as no:
         _say(options.directory, str(no))
-        return 2
+    # also just before and after it plays: then the worker removes what it made once this process ends
     except Interrupted:
         _say(options.directory, "interrupted")
-        return 2
-    missing = player.found["missing"]
-    if missing and not options.quiet:
-        _say(options.directory, f"not there, and so not compared: {', '.join(missing)}")
-    return _checked(options, player)
+    return 2

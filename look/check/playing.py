@@ -3,6 +3,7 @@
 from __future__ import annotations
 
 import collections
+import errno
 import os
 import time
 from typing import Any, Callable, NamedTuple, Optional
@@ -14,6 +15,7 @@ from .opening import Unusable
 from .worker import Hang, Worker
 
 NO_ANSWER = "no answer"
+GONE = ("ENOENT", "ENOTCONN")  # of a directory whose groups are gone
 # how much of the limit a change and a kill may take, and how much when a difference is shown anew
 PATIENCE, SHORT_PATIENCE = 0.5, 0.03
 Next = Callable[[Engine], Optional[Words]]
@@ -35,6 +37,11 @@ class Difference(NamedTuple):
     @property
     def hangs(self) -> bool:
         return self.theirs.error == NO_ANSWER
+
+    @property
+    def is_beginning(self) -> bool:
+        """Whether no sequence can begin."""
+        return self.played == [["mkdir", "/"]]
 
 
 class Counts:
@@ -131,6 +138,8 @@ class Player:
             error, _ = self._ask("begin", way, self.patience)
         except Hang:
             return Difference(way, [["mkdir", "/"]], Answer("ok"), Answer(NO_ANSWER))
+        if error in GONE:
+            raise Unusable(f"it is gone: {os.strerror(getattr(errno, error))}")
         if error != "ok":
             return Difference(way, [["mkdir", "/"]], Answer("ok"), Answer(error))
         played: list[Words] = []

@@ -197,11 +197,12 @@ class _Script:
         if words[0] == "write":
             line = "/bin/echo ".join(line.rsplit("echo ", 1))
         theirs, ours = self._difference.theirs, self._difference.ours
-        if theirs.error == ours.error == "ok" and words[0] in ("fork", "exit"):
+        are_done = theirs.error == ours.error == "ok"
+        if are_done and words[0] in ("fork", "exit"):
             line += f"; cat {self._file(group, 'cgroup.procs')}"
-        if words[0] == "write" and words[2] == "cgroup.kill" and ours.text != theirs.text:
+        if are_done and words[0] == "write" and words[2] == "cgroup.kill" and ours.text != theirs.text:
             # not waited for, since it may be alive
-            line = line.split("; ")[0] + '; sleep 0.5; ps -o pid=,stat= -p "$k"'
+            line = line.split("; ")[0] + '; sleep 0.5; ps -o pid=,stat= -p "${k# }"'
         return line
 
     def _body(self) -> None:
@@ -238,7 +239,7 @@ class _Script:
             "#!/bin/sh",
             "# the last line shows it: " + "; ".join(explained(self._difference)),
             f"cd {shlex.quote(self._directory)} && mkdir {own}{control} && mkdir {own}/home {own}/top && cd {own}/top || exit 2",
-            f"k= d=$(mktemp -d); trap 'kill -9 $k; sleep 0.5; rm -r \"$d\"; cd ../..; find {own} -depth -type d -exec rmdir {{}} +' EXIT",
+            f"k= d=$(mktemp -d); trap 'kill -9 $k 2>/dev/null; sleep 0.5; rm -r \"$d\"; cd ../..; find {own} -depth -type d -exec rmdir {{}} +' EXIT",
         ]
         if needs_fifo:
             lines.append('p() { exec 3<>$d/$1; while read c <&3; do command eval "$c"; done; }')

@@ -144,17 +144,20 @@ class Worker:
         self._number = 0
 
     def ask(self, *request: Any) -> tuple[str, Any]:
-        """The errno, or "ok", and the answer. Hang if there is none in time."""
+        """The errno, or "ok", and the answer. Hang if there is none in time, as of a worker that was killed."""
         self._number += 1
-        self._lines.put([self._number, *request])
-        while True:
-            answer = self._lines.get(self.limit)
-            if answer is None:
-                raise Hang
-            number, error, value = answer
-            # a request that a signal interrupted left its answer
-            if number == self._number:
-                return error, value
+        try:
+            self._lines.put([self._number, *request])
+            while True:
+                answer = self._lines.get(self.limit)
+                if answer is None:
+                    raise Hang
+                number, error, value = answer
+                # a request that a signal interrupted left its answer
+                if number == self._number:
+                    return error, value
+        except ConnectionError:
+            raise Hang from None
 
     def abandon(self) -> None:
         """Kills it and the sleeping processes. If it hangs in the directory, it ends once the directory answers."""

@@ -37,7 +37,7 @@ class History:
         self.h = hierarchy
         self.copy = Copy()
         self.lines: List[str] = []
-        self.notes: Dict[int, str] = {}  # comments, by the number of commands before them
+        self._comments: Dict[int, List[str]] = {}  # by the number of commands before them
         self.answers: List[str] = ["ok"]
         self.answer: List[int] = []
         self.steps: List[List[int]] = []
@@ -92,8 +92,7 @@ class History:
     def _comment(self, comment: bytes) -> None:
         time = _TIME.fullmatch(comment)
         if time is None:
-            at = len(self.lines)
-            self.notes[at] = (self.notes[at] + " " if at in self.notes else "") + shown(comment)
+            self._comments.setdefault(len(self.lines), []).append(shown(comment))
             return
         now = int(time.group(1)) * 1000000 + int(((time.group(2) or b"") + b"000000")[:6])
         self._now = max(now, self._now or 0)
@@ -151,6 +150,11 @@ class History:
                 return _ok(_shown(answer))
             listing.is_engines()
         return FROM_STATE + str(len(group.pids))
+
+    @property
+    def notes(self) -> Dict[int, str]:
+        """The comments, by the number of commands before them."""
+        return {at: " ".join(comments) for at, comments in self._comments.items()}
 
     # ---- what a command changed
 

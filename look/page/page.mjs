@@ -137,6 +137,7 @@ function show(reaches = false) {
   at("tree").style.setProperty("--deepest", rows.reduce((most, { level }) => Math.max(most, level), 1));
   list.show(run.length, Math.max(0, moment - 1));
   tree.show(rows.length, reaches ? rowOf(view.chosen) : -1);
+  tree.point(rowOf(view.chosen));
   const time = run.times ? `, at ${run.times[moment].toFixed(6)} s` : "";
   at("moment").textContent = `${isBefore ? "before" : "after"} ${count(moment)} of ${count(run.length)}${time}`;
   at("when").textContent = `Groups ${isBefore ? "before" : "after"} this line`;
@@ -164,7 +165,12 @@ function go(wanted, before = isBefore) {
   show();
   showFound();
   clearTimeout(linking); // browsers allow few changes of the address in a second
-  linking = setTimeout(() => history.replaceState(null, "", `#${isBefore ? "before" : "line"}=${moment}`), 250);
+  linking = setTimeout(link, 250);
+}
+
+function link() {
+  clearTimeout(linking);
+  history.replaceState(null, "", `#${isBefore ? "before" : "line"}=${moment}`);
 }
 
 // Forward or backward; a second time, or at an end, it stops.
@@ -177,6 +183,12 @@ function play(by) {
     at(id).ariaPressed = String(!stops && by === its);
     at(id).textContent = !stops && by === its ? STOP : SIGNS[id];
   }
+}
+
+// Another speed holds at once.
+function playAnew() {
+  const by = playing?.by;
+  for (let times = by ? 2 : 0; times > 0; times--) play(by);
 }
 
 function openLink() {
@@ -220,6 +232,9 @@ function choose(id) {
   show(true);
 }
 
+// A group that has none below it would hide those that it gets later.
+const folds = (row) => Boolean(row) && (!row.group || row.children > 0);
+
 function fold({ group, of }) {
   const [set, id] = group ? [folded, group.id] : [unfolded, of.id];
   if (!set.delete(id)) set.add(id);
@@ -238,7 +253,7 @@ function onTreeKey(event) {
     }
     if (rows[next] && !rows[next].group) next += by;
     if (rows[next]) choose(rows[next].group.id);
-  } else if (event.key === "Enter" && index >= 0) fold(rows[index]);
+  } else if (event.key === "Enter" && folds(rows[index])) fold(rows[index]);
   else return;
   event.preventDefault();
   event.stopPropagation();
@@ -246,7 +261,7 @@ function onTreeKey(event) {
 
 function onTreeClick(event) {
   const element = event.target.closest(".row"), row = element && rows[Number(element.dataset.at)];
-  if (event.target.closest(".twist, .rest")) fold(row);
+  if (folds(row) && event.target.closest(".twist, .rest")) fold(row);
   else if (row && row.group && !event.target.closest(".pid")) choose(row.group.id);
 }
 
@@ -279,9 +294,12 @@ at("list").addEventListener("click", (event) => event.target.closest(".row") && 
 at("tree").addEventListener("click", onTreeClick);
 at("tree").addEventListener("keydown", onTreeKey);
 at("slider").addEventListener("input", () => go(Number(at("slider").value)));
+at("speed").addEventListener("change", playAnew);
 at("query").addEventListener("input", find);
 at("search").addEventListener("submit", (event) => (event.preventDefault(), goMatch(1)));
 document.addEventListener("click", (event) => event.target.closest("[data-pid]") && showLife(Number(event.target.dataset.pid)));
+// a link to the address that the page has would lead nowhere, and it may be an earlier moment's
+document.addEventListener("click", (event) => event.target.closest("a") && link());
 document.addEventListener("keydown", onKey);
 addEventListener("hashchange", openLink);
 addEventListener("resize", () => showPlots());

@@ -57,13 +57,19 @@ export class Rows {
     this.show(this.count);
   }
 
-  // If `reach` is the number of a row, scrolls so that it is in sight, and tells a screen reader that it is the one.
+  // Tells a screen reader which row is the one; none if it is -1.
+  point(at) {
+    this.reached = at;
+    if (at >= 0) this.box.setAttribute("aria-activedescendant", `${this.box.id}-${at}`);
+    else this.box.removeAttribute("aria-activedescendant");
+  }
+
+  // If `reach` is the number of a row, scrolls so that it is in sight, and points at it.
   show(count, reach = -1) {
     const { box, height, tall } = this, wanted = reach * height;
     if (count !== this.count) this.space.style.height = `${count * height}px`;
     this.count = count;
-    this.reached = reach >= 0 ? reach : this.reached;
-    if (reach >= 0) box.setAttribute("aria-activedescendant", `${box.id}-${reach}`);
+    if (reach >= 0) this.point(reach);
     if (reach >= 0 && (wanted < this.top + height || wanted > this.top + tall - 2 * height)) {
       this.top = Math.round(Math.max(0, Math.min(wanted - tall / 2, count * height - tall)));
       box.scrollTop = this.top;

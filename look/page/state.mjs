@@ -141,6 +141,9 @@ class State {
 export class Run {
   constructor(data) {
     Object.assign(this, data, { lines: data.lines === "" ? [] : data.lines.split("\n"), paths: ["/"], starts: [], killed: new Map() });
+    // a comment behind the last command is shown with it
+    const last = this.lines.length - 1, behind = data.notes[last + 1];
+    if (last >= 0 && behind) this.notes = { ...data.notes, [last]: data.notes[last] ? `${data.notes[last]} ${behind}` : behind };
     for (let id = 1; id < data.names.length; id++) {
       const above = data.parents[id];
       this.paths.push((above === 0 ? "" : this.paths[above]) + "/" + data.names[id]);
@@ -282,9 +285,9 @@ export class Run {
   busiest(count) {
     const scores = new Map(), score = (id) => scores.get(id) ?? scores.set(id, { id, refused: 0, arrived: 0 }).get(id);
     for (let command = 0; command < this.length; command++) {
-      this.each(command, (kind, a, b) => {
+      this.each(command, (kind, a, b, c, d) => {
         if ((kind === BORN || kind === MOVE) && b) score(b).arrived++;
-        else if (kind === ADD && a === LOCAL && b) score(b).refused++;
+        else if (kind === ADD && a === LOCAL && b && d > 0) score(b).refused++; // its undo is no refusal
       });
     }
     return [...scores.values()].sort((a, b) => b.refused - a.refused || b.arrived - a.arrived || a.id - b.id).slice(0, count).map(({ id }) => id);
@@ -295,10 +298,11 @@ export function sorted(numbers) {
   return [...numbers].sort((a, b) => a - b);
 }
 
-// The rows of the tree. A group with many others beside it is folded: `shown` of them, those in `keep`, and a row for the rest.
+// The rows of the tree. A group with many others beside it is folded: `shown` of them, those in `keep` or above one, and a row for the rest.
 // `place` is the row's among the `beside` rows that it would have beside it if none were folded, from 1; the row for the rest is the last.
 export function treeRows(state, folded, unfolded, keep, most = 50, shown = 20) {
-  const rows = [], names = state.run.names;
+  const rows = [], { names, parents } = state.run, kept = new Set();
+  for (const one of keep) for (let id = one; !kept.has(id); id = parents[id]) kept.add(id);
   const add = (group, level, place, beside) => {
     const below = [...group.below.values()], closed = folded.has(group.id);
     rows.push({ group, level, place, beside, children: below.length, closed });
@@ -306,7 +310,7 @@ export function treeRows(state, folded, unfolded, keep, most = 50, shown = 20) {
     below.sort((a, b) => (names[a.id] < names[b.id] ? -1 : 1));
     const many = below.length > most, few = many && !unfolded.has(group.id), all = below.length + Number(many);
     let rest = 0;
-    below.forEach((child, at) => (few && at >= shown && !keep.has(child.id) ? rest++ : add(child, level + 1, at + 1, all)));
+    below.forEach((child, at) => (few && at >= shown && !kept.has(child.id) ? rest++ : add(child, level + 1, at + 1, all)));
     if (many) rows.push({ group: null, of: group, level: level + 1, place: all, beside: all, rest });
   };
   add(state.groups.get(0), 0, 1, 1);

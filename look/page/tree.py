@@ -9,21 +9,28 @@ every SECONDS (0.5) for the others.
 from __future__ import annotations
 
 import io
+import itertools
 import os
+import re
+import resource
 import select
 import shutil
 import sys
 import time
+import unicodedata
 from dataclasses import dataclass, field
 from typing import IO, Dict, Iterator, List, Optional, TextIO, Tuple
 
 from ..hierarchy import Hierarchy
 from .command_line import of_words
 
+UNKNOWN = -1
 BAR = 10
 PIDS_MOST = 16
 WATCHED_MOST = 200
 _EIGHTHS = " ▏▎▍▌▋▊▉█"
+_SECONDS = re.compile(r"[0-9]+\.?[0-9]*|\.[0-9]+")
+_WAIT_MOST = (1 << 31) - 1  # milliseconds that poll takes
 # What is drawn where the output's encoding has no lines and blocks.
 _ASCII = str.maketrans("├└─│█▏▎▍▌▋▊▉", "|`-|#       ")
 
@@ -35,7 +42,7 @@ class Node:
     name: str
     processes: List[int]
     current: Optional[int] = None
-    limit: Optional[int] = None  # None: no limit
+    limit: Optional[int] = None  # None: no limit; UNKNOWN: its file can't be read
     peak: Optional[int] = None
     populated: Optional[bool] = None
     here: Optional[int] = None
@@ -77,21 +84,42 @@ def _number(folder: str, file: str, key: str = "") -> Optional[int]:
     return int(word) if word.isdigit() else None
 
 
-def of_directory(folder: str, name: Optional[str] = None) -> Node:
-    """The group that a directory is, with those below it."""
-    node = Node(folder if name is None else name, [int(pid) for pid in _read(folder, "cgroup.procs") if pid.isdigit()])
-    node.current, node.limit, node.peak = (_number(folder, "pids." + file) for file in ("current", "max", "peak"))
+def _limit(folder: str) -> Optional[int]:
+    word = "".join(_read(folder, "pids.max")[:1])
+    return int(word) if word.isdigit() else None if word == "max" else UNKNOWN
+
+
+def _group(folder: str, name: str) -> Node:
+    """The group that a directory is, without those below it."""
+    node = Node(name, [int(pid) for pid in _read(folder, "cgroup.procs") if pid.isdigit()])
+    node.current, node.limit = _number(folder, "pids.current"), _limit(folder)
+    if node.current is None and node.limit == UNKNOWN:
+        node.limit = None
+    node.peak = _number(folder, "pids.peak")
     populated = _number(folder, "cgroup.events", "populated")
     node.populated = None if populated is None else populated > 0
     node.total, node.here = _number(folder, "pids.events", "max"), _number(folder, "pids.events.local", "max")
+    return node
+
+
+def _names_below(folder: str) -> List[str]:
     try:
         entries = sorted(entry.name for entry in os.scandir(folder) if entry.is_dir(follow_symlinks=False))
     except OSError:
-        entries = []  # removed meanwhile
-    for child in entries:
-        if not child.startswith(".") and os.path.exists(os.path.join(folder, child, "cgroup.procs")):
-            node.below.append(of_directory(os.path.join(folder, child), child))
-    return node
+        return []  # removed meanwhile
+    return [name for name in entries if os.path.exists(os.path.join(folder, name, "cgroup.procs"))]
+
+
+def of_directory(folder: str, name: Optional[str] = None) -> Node:
+    """The group that a directory is, with those below it. A kernel has no greatest depth, so nothing here recurs."""
+    top = Node("", [])
+    rest = [(folder, folder if name is None else name, top)]
+    while rest:
+        path, called, above = rest.pop()
+        node = _group(path, called)
+        above.below.append(node)
+        rest += [(os.path.join(path, child), child, node) for child in reversed(_names_below(path))]
+    return top.below[0]
 
 
 # ---- as text
@@ -108,12 +136,31 @@ def _escaped(name: str) -> str:
     return name.encode("ascii", "backslashreplace").decode("ascii")
 
 
+def _wide(text: str) -> int:
+    """How many columns of a terminal it takes: a letter of Chinese takes two, an accent that follows its letter none."""
+    if text.isascii():
+        return len(text)
+    return sum(not unicodedata.combining(c) and 1 + (unicodedata.east_asian_width(c) in "WF") for c in text)
+
+
+def _fitting(text: str, columns: int) -> str:
+    """The beginning of the text that these columns have room for."""
+    if text.isascii():
+        return text[:columns]
+    for at, letter in enumerate(text):
+        columns -= _wide(letter)
+        if columns < 0:
+            return text[:at]
+    return text
+
+
 def _cut(parts: List[_Part], width: Optional[int]) -> Iterator[_Part]:
     """The parts of a line, as far as they fit into the width."""
-    left = sum(len(text) for text, _ in parts) if width is None else width
+    left = sum(_wide(text) for text, _ in parts) if width is None else width
     for text, kind in parts:
-        yield text[:left], kind
-        left -= len(text[:left])
+        shown = _fitting(text, left)
+        yield shown, kind
+        left -= _wide(shown)
 
 
 def _printable(name: str) -> str:
@@ -124,7 +171,7 @@ def _printable(name: str) -> str:
 
 def _bar(node: Node) -> List[_Part]:
     """The count as a part of the limit, with a mark at the peak; without a limit there are no parts."""
-    if node.current is None or node.limit is None:
+    if node.current is None or node.limit is None or node.limit == UNKNOWN:
         return [(" " * (BAR + 2), "")]
     eighths = min(BAR * 8, node.current * BAR * 8 // max(node.limit, 1))
     cells = ["█"] * (eighths // 8) + ([_EIGHTHS[eighths % 8]] if eighths % 8 else [])
@@ -138,31 +185,35 @@ def _bar(node: Node) -> List[_Part]:
 
 
 def _columns(node: Node) -> Tuple[str, ...]:
-    limit = "max" if node.limit is None else str(node.limit)
+    limit = "max" if node.limit is None else "?" if node.limit == UNKNOWN else str(node.limit)
     count = "" if node.current is None else f"{node.current}/{limit}"
     peak = "" if node.peak is None else f"peak {node.peak}"
     populated = {None: "", True: "populated", False: "empty"}[node.populated]
-    refused = f"refused {node.here or 0} here, {node.total or 0} in all" if node.total or node.here else ""
+    # before Linux 6.11 there is no pids.events.local
+    here = "" if node.here is None else f"{node.here} here, "
+    refused = f"refused {here}{node.total or 0} in all" if node.total or node.here else ""
     pids = [str(pid) for pid in node.processes[:PIDS_MOST]]
     more = len(node.processes) - len(pids)
     return count, peak, populated, refused, " ".join(pids + ([f".. {more} more"] if more else []))
 
 
-def _flat(node: Node, indent: str = "", mark: str = "") -> Iterator[Tuple[str, str, Node]]:
-    yield indent + mark, _printable(node.name), node
-    indent += {"": "", "├─ ": "│  ", "└─ ": "   "}[mark]
-    for at, below in enumerate(node.below):
-        yield from _flat(below, indent, "└─ " if at == len(node.below) - 1 else "├─ ")
+def _flat(top: Node) -> Iterator[Tuple[str, str, Node]]:
+    rest = [(top, "", "")]
+    while rest:
+        node, indent, mark = rest.pop()
+        yield indent + mark, _printable(node.name), node
+        indent += {"": "", "├─ ": "│  ", "└─ ": "   "}[mark]
+        rest += [(below, indent, "├─ " if at else "└─ ") for at, below in enumerate(reversed(node.below))]
 
 
 def draw(node: Node, colour: bool = False, width: Optional[int] = None, is_ascii: bool = False) -> str:
     """The tree as text, one line for each group, cut to the width if there is one."""
     rows = [(lead, _escaped(name) if is_ascii else name, group, _columns(group)) for lead, name, group in _flat(node)]
-    names = max(len(lead) + len(name) for lead, name, _, _ in rows)
+    names = max(len(lead) + _wide(name) for lead, name, _, _ in rows)
     sizes = [max(len(row[3][at]) for row in rows) for at in range(4)]
     lines = []
     for lead, name, group, (count, peak, populated, refused, pids) in rows:
-        parts = [(lead, ""), (name, "name"), (" " * (names - len(lead) - len(name) + 2), ""), *_bar(group)]
+        parts = [(lead, ""), (name, "name"), (" " * (names - len(lead) - _wide(name) + 2), ""), *_bar(group)]
         parts += [("  " + count.rjust(sizes[0]), ""), ("  " + peak.ljust(sizes[1]), "peak")]
         parts.append(("  " + populated.ljust(sizes[2]), "yes" if group.populated else "soft"))
         parts += [("  " + refused.ljust(sizes[3]), "refused")] if sizes[3] else []
@@ -186,6 +237,12 @@ def drawn_for(node: Node, out: IO[str]) -> str:
 # ---- the command
 
 
+def _watched_most() -> int:
+    """How many groups are watched, each by two files. The other half of the descriptors is for reading."""
+    limit = resource.getrlimit(resource.RLIMIT_NOFILE)[0]
+    return WATCHED_MOST if limit == resource.RLIM_INFINITY else min(WATCHED_MOST, limit // 4)
+
+
 class Watch:
     """Waits for a change of a directory's groups."""
 
@@ -198,7 +255,7 @@ class Watch:
         """Polls the event files of the existing groups; whether it opened any."""
         opened = False
         wanted = set()
-        for path in list(_paths(self.folder, node))[:WATCHED_MOST]:
+        for path in itertools.islice(_paths(self.folder, node), _watched_most()):
             wanted |= {os.path.join(path, file) for file in ("cgroup.events", "pids.events")}
         for path in set(self.files) - wanted:
             self._drop(path)
@@ -218,7 +275,7 @@ class Watch:
     def wait(self, seconds: float) -> None:
         """Until an event file changes, or the time is over."""
         paths = {file: path for path, file in self.files.items()}
-        for file, _ in self.poll.poll(seconds * 1000):
+        for file, _ in self.poll.poll(min(seconds * 1000, _WAIT_MOST)):
             try:
                 os.pread(file, 4096, 0)  # an event file that was read waits for the next change
             except OSError:
@@ -229,14 +286,21 @@ class Watch:
             self._drop(path)
 
 
-def _paths(folder: str, node: Node) -> Iterator[str]:
-    yield folder
-    for below in node.below:
-        yield from _paths(os.path.join(folder, below.name), below)
+def _paths(folder: str, top: Node) -> Iterator[str]:
+    rest = [(folder, top)]
+    while rest:
+        path, node = rest.pop()
+        yield path
+        rest += [(os.path.join(path, below.name), below) for below in reversed(node.below)]
+
+
+def _is_screen(out: IO[str]) -> bool:
+    """Whether it is a terminal that colours letters and moves its cursor."""
+    return out.isatty() and os.environ.get("TERM") != "dumb"
 
 
 def uses_colour(out: IO[str]) -> bool:
-    return out.isatty() and os.environ.get("TERM") != "dumb" and not os.environ.get("NO_COLOR")
+    return _is_screen(out) and not os.environ.get("NO_COLOR")
 
 
 def watch(folder: str, seconds: float, out: TextIO) -> None:
@@ -250,7 +314,7 @@ def watch(folder: str, seconds: float, out: TextIO) -> None:
                 node = of_directory(folder)
             text = drawn_for(node, out)
             if text != last:
-                out.write(("\x1b[H\x1b[2J" if out.isatty() else "" if last is None else "\n") + text)
+                out.write(("\x1b[H\x1b[2J" if _is_screen(out) else "" if last is None else "\n") + text)
                 out.flush()
                 last = text
             start = time.monotonic()
@@ -267,7 +331,7 @@ def _words(words: List[str]) -> Optional[Tuple[str, Optional[float]]]:
         word = rest.pop(0)
         if word == "--watch":
             seconds = 0.5
-            if rest and rest[0].replace(".", "", 1).isdigit():
+            if rest and _SECONDS.fullmatch(rest[0]):
                 seconds = float(rest.pop(0))
         elif word == "--":
             folders += rest

@@ -8,6 +8,7 @@ input. The page is TRACE.html unless -o names another; `-o -` is standard output
 from __future__ import annotations
 
 import os
+import stat
 import sys
 from typing import List, Optional, Tuple
 
@@ -36,7 +37,9 @@ def _words(words: List[str]) -> Optional[Tuple[str, str]]:
             traces.append(word)
     if len(traces) != 1:
         return None
-    return traces[0], to or ("-" if traces[0] == "-" else traces[0] + ".html")
+    if to is None:
+        to = "-" if traces[0] == "-" else traces[0] + ".html"
+    return traces[0], to
 
 
 def _read(trace: str) -> bytes:
@@ -60,7 +63,13 @@ def _say(sentence: str) -> None:
 
 
 def _is_same(trace: str, to: str) -> bool:
-    return "-" not in (trace, to) and os.path.exists(to) and os.path.samefile(trace, to)
+    """Whether the page would replace the trace, or be written behind it."""
+    try:
+        read = os.fstat(sys.stdin.fileno()) if trace == "-" else os.stat(trace)
+        written = os.fstat(sys.stdout.fileno()) if to == "-" else os.stat(to)
+    except OSError:
+        return False
+    return stat.S_ISREG(read.st_mode) and os.path.samestat(read, written)
 
 
 @of_words("makhloeum view", __doc__, _words)
@@ -72,10 +81,10 @@ def main(wanted: Tuple[str, str]) -> int:
             history = History(h)
             history.read(_read(trace))
         if history.lines and all(history.answers[answer] == "refused syntax" for answer in history.answer):
-            _say(f"no line of {trace} is a command")
+            _say(f"no line of {at} is a command")
             return 1
         if _is_same(trace, to):
-            _say(f"the page would replace the trace {trace}")
+            _say(f"the page would replace the trace {'on ' if trace == '-' else ''}{at}")
             return 2
         name = "standard input" if trace == "-" else shown(os.fsencode(os.path.basename(trace)))
         at = to

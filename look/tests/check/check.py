@@ -191,7 +191,9 @@ def shows(script):
     if wanted:
         return wanted[1] in ran.stderr, ran
     text, printed = eval(said), ran.stdout.rpartition("--\n")[2]
-    return "alive: " in text or printed == text or len(printed.split()) == len(text.split()), ran
+    if "alive: " in text:
+        return "error" not in ran.stderr, ran
+    return printed == text or len(printed.split()) == len(text.split()), ran
 
 
 def caught(name):

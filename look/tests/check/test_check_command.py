@@ -8,6 +8,7 @@ import pytest
 
 from makhloeum.check import command, playing
 from makhloeum.check.engine import Answer, Engine
+from makhloeum.check.opening import Unusable
 from makhloeum.check.playing import NO_ANSWER, Counts, Difference
 
 ENDING = (signal.SIGINT, signal.SIGTERM, signal.SIGHUP)
@@ -16,6 +17,8 @@ ENDING = (signal.SIGINT, signal.SIGTERM, signal.SIGHUP)
 @pytest.fixture(autouse=True)
 def handlers():
     before = [signal.getsignal(number) for number in ENDING]
+    for number in ENDING:
+        signal.signal(number, signal.SIG_DFL)  # the tests may have been started with some ignored, as by nohup
     yield
     for number, handler in zip(ENDING, before):
         signal.signal(number, handler)
@@ -38,7 +41,10 @@ class Scripted:
             return self._again([words for words in iter(lambda: following(None), None)])
         self.ways.append(way)
         counts.operations += 10
-        return self._found.pop(0) if self._found else None
+        found = self._found.pop(0) if self._found else None
+        if isinstance(found, Exception):
+            raise found
+        return found
 
     def close(self):
         self.is_closed = True
@@ -125,6 +131,26 @@ def test_a_directory_that_hangs_ends_the_check(capsys):
     )
 
 
+def test_a_directory_in_which_no_sequence_can_begin_ends_the_check(capsys):
+    """Without operations their number never comes."""
+    player = Scripted(Difference("free", [["mkdir", "/"]], Answer("ok"), Answer("EBUSY")), *KINDS)
+    status, out, _ = checked(capsys, player, "--count", "500")
+    assert (status, len(player.ways)) == (1, 1) and ", 1 differences\n" in out
+    assert out.startswith("difference: mkdir /: the engine: ok; the directory: EBUSY (Device or resource busy)\n")
+
+
+def test_a_directory_that_is_gone_ends_the_check(capsys):
+    """What it answered before isn't counted if it can't be tried again."""
+
+    def gone(commands):
+        raise Unusable("it is gone")
+
+    status, out, error = checked(capsys, Scripted(None, KINDS[0], again=gone), "--count", "500")
+    assert (status, error) == (2, ["makhloeum check: /dir: it is gone"]) and re.fullmatch("20 .*, 0 differences\n", out)
+    status, out, error = checked(capsys, Scripted(KINDS[0], Unusable("it is gone")), "--count", "500")
+    assert (status, error) == (1, ["makhloeum check: /dir: it is gone"]) and ", 1 differences\n" in out
+
+
 def test_a_difference_is_made_short(capsys):
     def again(commands):
         """It shows whenever /x1 was made before /a was removed."""
@@ -138,8 +164,8 @@ def test_a_difference_is_made_short(capsys):
 
 def test_a_difference_stays_as_it_is_without_time(capsys):
     again = []
-    checked(capsys, Scripted(difference("rmdir /a", before=20), again=again.append), "--shorten", "0")
-    assert again == []
+    _, out, _ = checked(capsys, Scripted(difference("rmdir /a", before=20), again=again.append), "--shorten", "0")
+    assert again == [] and "; 21 operations, not made short)\n" in out
 
 
 # ---- what is printed
@@ -261,6 +287,21 @@ def test_the_options():
         with pytest.raises(SystemExit) as ended:
             command._arguments(wrong)
         assert ended.value.code == 2, wrong
+
+
+@pytest.mark.parametrize("option", ["--time", "--limit", "--shorten"])
+def test_numbers_of_seconds(capsys, option):
+    """What a wait can't take is refused before anything is made in the directory."""
+    for right in ("0", "0.5", "1e6", "1000000"):
+        assert vars(command._arguments(["/x", option, right]))[option[2:]] == float(right)
+    for wrong in ("-1", "nan", "inf", "1e300", "1000001"):
+        with pytest.raises(SystemExit) as ended:
+            command._arguments(["/x", option, wrong])
+        said = f"makhloeum check: error: argument {option}: {wrong} is not from 0 to 1000000\n"
+        assert ended.value.code == 2 and capsys.readouterr().err.endswith(said), wrong
+    with pytest.raises(SystemExit):
+        command._arguments(["/x", option, "one"])
+    assert capsys.readouterr().err.endswith(f"argument {option}: invalid seconds value: 'one'\n")
 
 
 def test_the_help_says_what_each_option_is_without_it(capsys, monkeypatch):
@@ -418,6 +459,16 @@ class Played(Scripted):
         return super().play(way, following, counts)
 
 
+@pytest.mark.parametrize("ignored", [(), (signal.SIGHUP,), ENDING])
+def test_a_signal_that_the_caller_ignores_stays_ignored(ignored):
+    """As nohup asks for, and a shell for a command in the background."""
+    for number in ENDING:
+        signal.signal(number, signal.SIG_IGN if number in ignored else signal.SIG_DFL)
+    command._handle_ending()
+    for number in ENDING:
+        assert signal.getsignal(number) == (signal.SIG_IGN if number in ignored else command._interrupt)
+
+
 @pytest.mark.parametrize("quiet", [False, True])
 def test_a_directory_that_lacks_files_is_said_so(capsys, monkeypatch, quiet):
     monkeypatch.setattr(command, "Player", Played)
@@ -450,6 +501,16 @@ def test_a_directory_that_cannot_be_checked_ends_the_command(capsys, monkeypatch
     monkeypatch.setattr(command, "Player", refused)
     assert command.main(["/dir"]) == 2
     assert capsys.readouterr() == ("", f"makhloeum check: /dir: {sentence}\n")
+
+
+def test_a_signal_just_before_it_plays_is_no_traceback(capsys, monkeypatch):
+    def interrupted(options, player):
+        raise command.Interrupted
+
+    monkeypatch.setattr(command, "Player", Played)
+    monkeypatch.setattr(command, "_Check", interrupted)
+    assert command.main(["/dir", "--quiet"]) == 2
+    assert capsys.readouterr() == ("", "makhloeum check: /dir: interrupted\n")
 
 
 def test_worked_sequences_come_first(capsys):

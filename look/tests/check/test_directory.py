@@ -7,6 +7,7 @@ import json
 import os
 import select
 import types
+from pathlib import Path
 
 import pytest
 from open_files import open_files
@@ -475,7 +476,7 @@ def test_an_open_file_that_keeps_its_first_text_is_found(player, monkeypatch):
         "read_whole",
         lambda descriptor: texts.setdefault(descriptor, os.pread(descriptor, 65536, 0).decode()),
     )
-    monkeypatch.setattr(directory, "file_read", lambda path: open(path).read())
+    monkeypatch.setattr(directory, "file_read", lambda path: Path(path).read_text())
     for number in range(1, 40):
         found = player.play("free", Random(5, number))
         texts.clear()

@@ -182,6 +182,16 @@ def test_a_sequence_that_cannot_begin(scripted, answer, theirs):
     assert plays(scripted.asked) == [] and scripted.asked[-1] == ["end"]
 
 
+@pytest.mark.parametrize(
+    "error, why", [("ENOENT", "No such file or directory"), ("ENOTCONN", "Transport endpoint is not connected")]
+)
+def test_a_directory_that_is_gone(scripted, error, why):
+    player = scripted(begin=[(error, "")])
+    with pytest.raises(Unusable) as unusable:
+        player.play("free", commands("mkdir /a"), Counts())
+    assert str(unusable.value) == f"it is gone: {why}" and scripted.asked[-1] == ["end"]
+
+
 def test_a_worker_that_hangs_is_replaced(scripted):
     player = scripted(play=[HANGS], end=[HANGS], reopen=[HANGS])
     player.play("free", commands("mkdir /a"), Counts())

@@ -330,6 +330,23 @@ def test_a_request_that_takes_too_long_hangs(monkeypatch):
     slow.leave()
 
 
+@pytest.mark.parametrize("is_waited_for", [False, True])
+def test_a_worker_that_was_killed_answers_no_more(monkeypatch, is_waited_for):
+    """As by a directory whose cgroup.kill kills the wrong processes. What it doesn't read is no traceback."""
+    monkeypatch.setattr(worker._Worker, "die", lambda self: os.kill(os.getpid(), signal.SIGKILL), raising=False)
+    at = Worker(PATIENCE)
+    if is_waited_for:
+        os.kill(at.pid, signal.SIGKILL)
+        assert until(lambda: is_over(at.pid))
+    else:
+        with pytest.raises(Hang):
+            at.ask("die")
+    for _ in range(2):
+        with pytest.raises(Hang):
+            at.ask("end")
+    at.leave()
+
+
 def test_a_worker_that_does_not_end_is_killed(monkeypatch):
     monkeypatch.setattr(worker._Worker, "nap", lambda self, seconds: time.sleep(seconds), raising=False)
     at = Worker(0.1)

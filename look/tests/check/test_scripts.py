@@ -32,7 +32,8 @@ def body(*lines, way="free", control=False, ours=BUSY, theirs=DONE):
     on = f"; echo +pids >{own}/cgroup.subtree_control" if control else ""
     assert script[2] == f"cd /dir && mkdir {own}{on} && mkdir {own}/home {own}/top && cd {own}/top || exit 2"
     gone = f"cd ../..; find {own} -depth -type d -exec rmdir {{}} +"
-    assert script[3] == f"k= d=$(mktemp -d); trap 'kill -9 $k; sleep 0.5; rm -r \"$d\"; {gone}' EXIT", "nothing is left"
+    trap = f'kill -9 $k 2>/dev/null; sleep 0.5; rm -r "$d"; {gone}'
+    assert script[3] == f"k= d=$(mktemp -d); trap '{trap}' EXIT", "nothing is left"
     rest = script[4:]
     forks = [line for line in rest if line.startswith(("p()", "f()"))]
     assert [line[:3] for line in forks] in ([], ["p()", "f()"]) and rest[: len(forks)] == forks
@@ -174,11 +175,40 @@ def test_a_script_waits_for_a_change_that_comes_late(tmp_path):
     assert ran.stdout == "poll came\n" or ran.stdout == "poll nothing\n" and took > 2, (took, ran.stderr)
 
 
+@pytest.mark.parametrize("processes", [1, 2])
+def test_a_script_of_a_kill_names_the_processes_that_a_plain_directory_leaves_alive(tmp_path, processes):
+    commands = [["mkdir", "/a"]]
+    for pid in range(2, 2 + processes):
+        commands += [["fork", "1", str(pid)], ["write", "/a", "cgroup.procs", str(pid)]]
+    commands.append(["write", "/a", "cgroup.kill", "1"])
+    ours, theirs = Answer("ok", "alive: 1"), Answer("ok", "alive: 1 2")
+    script = shell_script(Difference("free", commands, ours, theirs), str(tmp_path))
+    ran = subprocess.run(["sh", "-c", "\n".join(script)], capture_output=True, text=True, timeout=600)
+    assert [line.split()[1][0] for line in ran.stdout.splitlines()] == ["S"] * processes, ran
+    # the files of a plain directory stay
+    assert {line.split(":")[0] for line in ran.stderr.splitlines()} == {"rmdir"}
+
+
+def test_a_script_without_processes_says_nothing_else(tmp_path):
+    commands = [["mkdir", "/a"], ["mkdir", "/a"]]
+    script = shell_script(Difference("free", commands, Answer("EPERM"), Answer("EEXIST")), str(tmp_path))
+    words = dict(os.environ, LC_ALL="C")
+    ran = subprocess.run(["sh", "-c", "\n".join(script)], capture_output=True, text=True, timeout=600, env=words)
+    assert ran.stdout == "" and ran.stderr.count("\n") == 1 and "File exists" in ran.stderr
+    assert os.listdir(tmp_path) == []
+
+
 def test_a_kill_that_differs_shows_who_is_alive():
     lines = body(*MOVED, "write /a cgroup.kill 1", ours=Answer("ok", "alive: "), theirs=Answer("ok", "alive: 2"))
-    assert lines == [*MOVES, '/bin/echo 1 >a/cgroup.kill; sleep 0.5; ps -o pid=,stat= -p "$k"']
+    assert lines == [*MOVES, '/bin/echo 1 >a/cgroup.kill; sleep 0.5; ps -o pid=,stat= -p "${k# }"']
     same = body(*MOVED, "write /a cgroup.kill 1", ours=Answer("EINVAL", "", "value"), theirs=DONE)
     assert same == [*MOVES, "/bin/echo 1 >a/cgroup.kill; wait $p2"]
+    more = body(
+        "mkdir /a", "write /a cgroup.kill 2", ours=Answer("EINVAL", "", "value"), theirs=Answer("ok", "alive: 1")
+    )
+    assert more == ["mkdir a", "/bin/echo 2 >a/cgroup.kill; sleep 0.2"], "it differs whoever is alive"
+    less = body("mkdir /a", "write /a cgroup.kill 1", ours=Answer("ok", "alive: 1"), theirs=Answer("EACCES"))
+    assert less == ["mkdir a", "/bin/echo 1 >a/cgroup.kill; sleep 0.2"]
 
 
 @pytest.mark.parametrize(

@@ -107,6 +107,10 @@ export class Element {
     if (name === "class") this.className = String(value);
   }
 
+  removeAttribute(name) {
+    delete this.attributes[name];
+  }
+
   getAttribute(name) {
     return this.attributes[name] ?? null;
   }

@@ -40,6 +40,17 @@ test("a link to a moment, and the link that the page gives itself", async () => 
   assert.deepStrictEqual(addresses, ["#before=8", "#line=8"]);
 });
 
+test("a link is followed from the moment that is shown, not from the last address", async () => {
+  const { at, key, search } = await open(DATA, "#line=3");
+  search("2");
+  addresses.length = 0;
+  key("ArrowRight");
+  at("life").querySelector("a").bubble("click");
+  assert.deepStrictEqual([addresses, later.size], [["#line=4"], 0], "the address is the moment's before the browser follows the link");
+  at("list").bubble("click");
+  assert.strictEqual(addresses.length, 1, "other clicks are no links");
+});
+
 test("the time of a moment", async () => {
   const { at, key } = await open(TIMED, "#line=3");
   assert.strictEqual(at("moment").textContent, "after 3 of 12, at 0.750000 s");
@@ -227,6 +238,21 @@ test("at high speeds it goes several commands at a time", async () => {
   }
 });
 
+test("another speed holds at once", async () => {
+  const { at, click } = await open(DATA, "#line=6"), choose = (speed) => ((at("speed").value = speed), at("speed").dispatch("change"));
+  const told = () => [...timers.values()].map(({ each }) => each);
+  choose("100");
+  assert.deepStrictEqual([told(), at("play").ariaPressed], [[], undefined], "it begins nothing");
+  for (const [id, other] of [["play", "play-back"], ["play-back", "play"]]) {
+    choose("10");
+    click(id);
+    choose("2");
+    assert.deepStrictEqual([told(), at(id).ariaPressed, at(other).ariaPressed], [[500], "true", "false"]);
+    click(id);
+    assert.deepStrictEqual(told(), []);
+  }
+});
+
 // ---- search
 
 test("a search goes to the match at the moment, or the next one", async () => {
@@ -329,6 +355,18 @@ test("keys in the tree", async () => {
   assert.strictEqual(moment(), 6, "other keys are those of the page");
 });
 
+test("a group without groups below it does not fold", async () => {
+  const { at, key, names, rows } = await open(DATA, "#line=5");
+  key("Enter", { target: at("tree") });
+  rows("tree")[1].querySelector(".twist").bubble("click");
+  assert.strictEqual(at("path").textContent, "/a");
+  rows("tree")[0].children[1].bubble("click");
+  rows("tree")[1].querySelector(".twist").bubble("click");
+  assert.strictEqual(at("path").textContent, "/a", "a click there chooses it");
+  key("ArrowRight");
+  assert.deepStrictEqual(names(), ["/", "/a", "/a/b"], "the groups that it gets are shown");
+});
+
 test("rows that are folded away open by the arrow keys, and by a click", async () => {
   const many = 60, name = (at) => `g${String(at).padStart(2, "0")}`;
   const wide = {
@@ -379,6 +417,15 @@ test("the group that is chosen is in sight, and a step leaves the tree where it 
   assert.deepStrictEqual([at("path").textContent, tree.scrollTop], ["/g30", 0], "a search goes to a command");
   key("ArrowUp", { target: tree });
   assert.deepStrictEqual([at("path").textContent, tree.getAttribute("aria-activedescendant"), tree.scrollTop], ["/g29", "tree-20", 22 * 22 - 220], "the end of 22 rows");
+});
+
+test("a screen reader is told of the row of the chosen group, wherever a step puts it", async () => {
+  const data = { ...DATA, lines: "mkdir /b\nmkdir /a\nrmdir /b", names: ["/", "b", "a"], parents: [0, 0, 0], notes: {}, answer: [0, 0, 0], steps: [2, 0, 1, 2, 0, 2, 2, 1, 1] };
+  const { at, key } = await open(data, "#line=1"), told = () => at("tree").getAttribute("aria-activedescendant");
+  const steps = ["ArrowRight", "ArrowRight", "ArrowLeft", "Home", "ArrowRight"].map((name) => (key(name), told()));
+  assert.deepStrictEqual([at("path").textContent, steps], ["/b", ["tree-2", null, "tree-2", null, "tree-1"]]);
+  at("tree").dispatch("scroll");
+  assert.strictEqual(told(), "tree-1");
 });
 
 test("the details of a group", async () => {

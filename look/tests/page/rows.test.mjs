@@ -52,6 +52,12 @@ test("up to fifty groups side by side are shown, of more the first twenty", () =
   assert.deepStrictEqual([open.length, open.at(-1).rest, open.at(-1).of.id], [62, 0, 0]);
 });
 
+test("a group below one of many is shown with those above it", () => {
+  const beside = Array.from({ length: 60 }, (_, at) => `g${at + 10}`), run = made([...beside, "x", "y"], [...beside.map(() => 0), 56, 61]);
+  const rows = (...keep) => named(run, treeRows(run.go(62), new Set(), new Set(), new Set(keep))).slice(21);
+  assert.deepStrictEqual([rows(62), rows(61), rows()], [["1 g65", "2 x", "3 y", "1 +39"], ["1 g65", "2 x", "3 y", "1 +39"], ["1 +40"]]);
+});
+
 test("each row has its place among those beside it, folded ones included", () => {
   const run = made(["b", "a", "x", "y", "z"], [0, 0, 2, 2, 2]), places = (rows) => rows.map(({ place, beside }) => `${place} of ${beside}`);
   assert.deepStrictEqual(places(treeRows(run.go(5), ...none())), ["1 of 1", "1 of 2", "1 of 3", "2 of 3", "3 of 3", "2 of 2"]);
@@ -81,6 +87,8 @@ test("the busiest groups: those that refused first, then those with most arrival
   const many = [[0, 1], [0, 2], [0, 3], ...born(1, 1000, 3000), refused(2), ...born(3, 5000, 20), refused(3)];
   assert.deepStrictEqual(runOf(["a", "b", "c"], [0, 0, 0], many).busiest(3), [3, 2, 1], "one refusal comes before any number of arrivals");
   assert.deepStrictEqual(runOf(["a", "b"], [0, 0], [[0, 1], [0, 2], refused(1), ...born(1, 5, 2000), refused(2), refused(2)]).busiest(2), [2, 1], "more refusals before more arrivals");
+  const undone = (id) => [8, TOTAL, id, 1, -1, 8, LOCAL, id, 1, -1], three = [refused(1), refused(1), refused(1)];
+  assert.deepStrictEqual(runOf(["a", "b"], [0, 0], [[0, 1], [0, 2], ...three, refused(2), refused(2), undone(2), undone(2)]).busiest(2), [1, 2], "an undo is no refusal");
 });
 
 test("a life goes through kills that are undone, in the group where they hit", () => {
@@ -106,6 +114,15 @@ test("numbers, words and notes of a query", () => {
   Object.assign(run, { notes: { 2: "# A Remark" } });
   assert.deepStrictEqual([search(run, "5"), search(run, "  line  "), search(run, "REMARK"), search(run, "value"), search(run, "line 2"), search(run, "55")],
     [[2, 3], [1, 2, 3], [3], [2], [2], []]);
+});
+
+test("a comment behind the last command is one of it", () => {
+  const noted = (notes, lines = "mkdir /a\nmkdir /b") => new Run({
+    lines, names: ["/", "a", "b"], parents: [0, 0, 0], notes, times: null, answers: ["ok"], answer: [0, 0], steps: lines && [2, 0, 1, 2, 0, 2],
+  });
+  assert.deepStrictEqual(search(noted({ 0: "# first", 2: "# the end" }), "end"), [2]);
+  assert.strictEqual(noted({ 1: "# before", 2: "# behind" }).notes[1], "# before # behind");
+  assert.deepStrictEqual([noted({ 1: "# before" }).notes[1], noted({}).notes[1], noted({ 0: "# alone" }, "").length], ["# before", undefined, 0]);
 });
 
 // ---- plots

@@ -1,6 +1,7 @@
 """A run that the page would show otherwise than the engine is refused; times, notes and lines of a run as the page gets them."""
 
 import json
+import time
 
 import pytest
 from support import history_of
@@ -234,6 +235,19 @@ def test_comments_are_notes_before_the_next_command():
     history = history_of("# one\n\n  # two\nmkdir /a\n# three\nmkdir /b\nmkdir /c\n# last")
     assert history.notes == {0: "# one # two", 1: "# three", 3: "# last"}
     assert json.loads(data(history))["notes"] == {"0": "# one # two", "1": "# three", "3": "# last"}
+
+
+def test_many_comments_take_as_long_as_they_are():
+    """Eight times as many don't take sixty-four times as long."""
+
+    def seconds(count):
+        trace = b"# a comment of many words\n" * count + b"mkdir /a\n"
+        began = time.process_time()
+        assert len(history_of(trace).notes[0]) == 26 * count - 1
+        return time.process_time() - began
+
+    fewer, more = (min(seconds(count) for _ in range(3)) for count in (4000, 32000))
+    assert more < 25 * fewer
 
 
 @pytest.mark.parametrize(

@@ -71,6 +71,29 @@ def test_a_command_finds_its_package_through_a_link(tmp_path):
         assert (ran.returncode, ran.stderr) == (0, b"") and ran.stdout, path
 
 
+@pytest.mark.parametrize(
+    "words, name",
+    [
+        ("- -o {0}", "on standard input"),
+        ("- -o {1}", "on standard input"),
+        ("{0} -o -", "{0}"),
+        ("-", "on standard input"),
+    ],
+)
+def test_a_page_does_not_replace_its_trace(tmp_path, words, name):
+    """Not through a stream either."""
+    trace, link = tmp_path / "trace", tmp_path / "link"
+    trace.write_text("mkdir /a\n")
+    link.symlink_to(trace)
+    view = [sys.executable, "-m", "makhloeum", "view", *words.format(trace, link).split()]
+    with open(trace) as read, open(trace, "a") as written:
+        ran = subprocess.run(view, stdin=read, stdout=written, stderr=subprocess.PIPE, env=WORDS, timeout=600)
+    said = f"makhloeum view: the page would replace the trace {name.format(trace)}\n"
+    assert (ran.returncode, ran.stderr.decode(), trace.read_text()) == (2, said, "mkdir /a\n")
+    if "{0}" in words:
+        assert run("view", str(trace), "-o", "-", text=b"")[0] == 0 and run("view", "-", text=b"mkdir /a\n")[0] == 0
+
+
 def test_view_says_in_one_sentence_what_is_wrong(tmp_path):
     trace = tmp_path / "trace"
     trace.write_text("mkdir /a\n")
@@ -95,6 +118,7 @@ def test_view_says_in_one_sentence_what_is_wrong(tmp_path):
         got, out, error = run("view", *map(str, words))
         assert (got, out) == (status, "") and said in error and error.count("\n") == 1, (words, got, error)
     assert trace.read_text() == "mkdir /a\n"
+    assert run("view", "-", text=b"hello\n") == (1, "", "makhloeum view: no line of standard input is a command\n")
     with open(tmp_path / "written", "wb") as unreadable:
         view = [sys.executable, "-m", "makhloeum", "view", "-"]
         ran = subprocess.run(view, stdin=unreadable, capture_output=True, env=WORDS, timeout=600)

@@ -4,7 +4,10 @@ import io
 import os
 import queue
 import re
+import subprocess
+import sys
 import threading
+import traceback
 
 import pytest
 from support import open_files
@@ -106,12 +109,13 @@ def test_each_part_of_a_line_has_its_colour():
         ({}, ("", "", "", "", "")),
         ({"current": 0}, ("0/max", "", "", "", "")),
         ({"current": 3, "limit": 0}, ("3/0", "", "", "", "")),
+        ({"current": 3, "limit": tree.UNKNOWN}, ("3/?", "", "", "", "")),
         ({"peak": 0}, ("", "peak 0", "", "", "")),
         ({"populated": True}, ("", "", "populated", "", "")),
         ({"populated": False}, ("", "", "empty", "", "")),
         ({"total": 0, "here": 0}, ("", "", "", "", "")),
         ({"total": 2, "here": 0}, ("", "", "", "refused 0 here, 2 in all", "")),
-        ({"total": 2}, ("", "", "", "refused 0 here, 2 in all", "")),
+        ({"total": 2}, ("", "", "", "refused 2 in all", "")),
         ({"here": 2}, ("", "", "", "refused 2 here, 0 in all", "")),
         ({"processes": range(1, 17)}, ("", "", "", "", " ".join(map(str, range(1, 17))))),
         ({"processes": range(1, 18)}, ("", "", "", "", " ".join(map(str, range(1, 17))) + " .. 1 more")),
@@ -141,6 +145,20 @@ def test_a_line_is_cut_to_the_width(width, colour):
     for kind in tree.COLOURS.values():
         plain = plain.replace(f"\x1b[{kind}m", "")
     assert plain.replace("\x1b[0m", "").rstrip() == whole[:width].rstrip() and told.count("\n") == 1
+
+
+def test_wide_letters_take_two_columns():
+    names = ["\u6f22\u5b57", "a\u0301b", "\uff21", "abcd"]
+    root = node("g", below=[node(name, current=1, limit=2, peak=1) for name in names])
+    lines = draw(root).splitlines()[1:]
+    columns = [4, 2, 2, 4]  # of the names
+    assert [tree._wide(name) for name in names] == columns
+    assert [line.index("[") - len(name) + wide for line, name, wide in zip(lines, names, columns)] == [9] * 4
+    assert [tree._fitting("a\u0301b", columns) for columns in (0, 1, 2, 3)] == ["", "a\u0301", "a\u0301b", "a\u0301b"]
+    cut = {width: draw(root, width=width).splitlines()[1] for width in (3, 4, 5, 6, 7, 9, 10)}
+    first = "├─ \u6f22"
+    wanted = ["├─", "├─", first, first, first + "\u5b57", first + "\u5b57", first + "\u5b57  ["]
+    assert list(cut.values()) == wanted, "half a letter is none"
 
 
 # ---- a directory
@@ -173,18 +191,48 @@ def test_a_number_of_a_directory(tmp_path, file, text, field, number):
     assert getattr(found, field) == number and found.name == str(tmp_path)
     nothing = node(str(tmp_path))
     setattr(nothing, field, number)
+    nothing.limit = tree.UNKNOWN if field == "current" else nothing.limit
     assert found == nothing, "the other numbers are not there"
 
 
+@pytest.mark.parametrize(
+    "text, limit", [("max\n", None), ("7\n", 7), ("", tree.UNKNOWN), ("x\n", tree.UNKNOWN), (None, tree.UNKNOWN)]
+)
+def test_a_limit_that_cannot_be_read_is_not_none(tmp_path, text, limit):
+    (tmp_path / "pids.current").write_text("5\n")
+    if text is not None:
+        (tmp_path / "pids.max").write_text(text)
+    found = of_directory(str(tmp_path), "g")
+    assert found.limit == limit and ("[" in draw(found)) == (limit == 7)
+
+
 def test_the_groups_of_a_directory(tmp_path):
-    for name in ("b", "a", ".hidden", "no-group"):
+    for name in ("b", "a", ".group", "no-group", ".makhloeum"):
         (tmp_path / name).mkdir()
-        if name != "no-group":
+        if name not in ("no-group", ".makhloeum"):
             (tmp_path / name / "cgroup.procs").write_text("")
     (tmp_path / "link").symlink_to(tmp_path / "a")
     (tmp_path / "file").write_text("")
-    assert [below.name for below in of_directory(str(tmp_path)).below] == ["a", "b"]
+    assert [below.name for below in of_directory(str(tmp_path)).below] == [".group", "a", "b"]
     assert of_directory(str(tmp_path / "gone")).below == []
+
+
+def test_groups_deeper_than_functions_may_call_each_other(tmp_path, monkeypatch):
+    monkeypatch.chdir(tmp_path)
+    folder, levels, limit = "d", 150, sys.getrecursionlimit()
+    for level in range(levels):
+        os.mkdir(folder)
+        with open(f"{folder}/cgroup.procs", "w") as file:
+            file.write(f"{level}\n")
+        folder += "/d"
+    sys.setrecursionlimit(len(traceback.extract_stack()) + 100)
+    try:
+        found = of_directory("d")
+        lines, paths = draw(found).splitlines(), list(tree._paths("d", found))
+    finally:
+        sys.setrecursionlimit(limit)
+    assert [line.split()[-2:] for line in (lines[0], lines[-1])] == [["d", "0"], ["d", str(levels - 1)]]
+    assert len(lines) == len(paths) == levels and paths[-1] == folder[:-2]
 
 
 # ---- command lines
@@ -217,6 +265,8 @@ def test_the_groups_of_a_directory(tmp_path):
         (["d", "--watch", "."], None),
         (["--watch", ".5", "d"], ("d", 0.5)),
         (["--watch", "0.0", "d"], None),
+        (["--watch", "\u00b2", "d"], None),  # a digit of no number
+        (["--watch", "9" * 400, "d"], ("d", float("inf"))),
     ],
 )
 def test_the_words_of_tree(words, wanted):
@@ -239,6 +289,7 @@ def test_the_words_of_tree(words, wanted):
         (["t", "--", "u"], None),
         (["t", "-o"], None),
         (["t", "-o", "p", "-o", "q"], None),
+        (["t", "-o", ""], ("t", "")),  # of an unset variable: no such file
         (["-op", "-oq", "t"], None),
         (["t", "u"], None),
         (["--", "t", "u"], None),
@@ -303,6 +354,14 @@ def test_a_wait_ends_with_a_change_and_takes_it(followed):
     assert ready(watch) == []
 
 
+@pytest.mark.parametrize("seconds", [2147483.6, 2147483.7, 1e300, float("inf")])
+def test_a_wait_may_be_longer_than_poll_takes(followed, seconds):
+    h, watch = followed
+    h.write("/a", "cgroup.procs", 1)
+    watch.wait(seconds)
+    assert ready(watch) == []
+
+
 def test_a_group_that_is_gone_is_watched_no_more(followed):
     h, watch = followed
     os.rmdir("/cg/a/b")
@@ -331,6 +390,32 @@ def test_at_most_so_many_groups_are_watched(monkeypatch):
         watch.close()
 
 
+@pytest.mark.parametrize("limit, groups", [(0, 0), (15, 3), (16, 4), (799, 199), (800, 200), (1 << 20, 200), (-1, 200)])
+def test_watched_files_leave_descriptors_for_reading(monkeypatch, limit, groups):
+    monkeypatch.setattr(tree.resource, "getrlimit", lambda which: (limit, -1))
+    assert tree._watched_most() == groups
+
+
+def test_few_descriptors_are_enough(tmp_path):
+    """As many groups are drawn as there are, though they can't all be watched."""
+    for name in range(60):
+        (tmp_path / f"g{name}").mkdir()
+        for file in ("cgroup.procs", "cgroup.events", "pids.events"):
+            (tmp_path / f"g{name}" / file).write_text("")
+    (tmp_path / "cgroup.procs").write_text("")
+    script = (
+        "import io, resource, sys; from makhloeum.page import tree\n"
+        "resource.setrlimit(resource.RLIMIT_NOFILE, (40, 40)); out = io.StringIO()\n"
+        "class Ended(Exception): pass\n"
+        "def wait(self, seconds): raise Ended\n"
+        "tree.Watch.wait = wait\n"
+        "try: tree.watch(sys.argv[1], 1, out)\n"
+        "except Ended: print(out.getvalue().count('─ g'))\n"
+    )
+    told = subprocess.run([sys.executable, "-c", script, str(tmp_path)], capture_output=True, text=True)
+    assert (told.stdout, told.stderr) == ("60\n", "")
+
+
 # ---- what --watch draws
 
 
@@ -348,10 +433,14 @@ class Screen(io.StringIO):
         self.flushed.append(self.getvalue())
 
 
-@pytest.mark.parametrize("is_terminal", [False, True])
-def test_a_watch_draws_changes_until_the_directory_is_gone(tmp_path, monkeypatch, is_terminal):
+@pytest.mark.parametrize(
+    "is_terminal, term, clears", [(False, "xterm", False), (True, "xterm", True), (True, "dumb", False)]
+)
+def test_a_watch_draws_changes_until_the_directory_is_gone(tmp_path, monkeypatch, is_terminal, term, clears):
+    """A terminal that can't move its cursor gets no letters that would do it."""
     (tmp_path / "cgroup.procs").write_text("")
-    monkeypatch.setenv("TERM", "dumb")
+    monkeypatch.setenv("TERM", term)
+    monkeypatch.setenv("NO_COLOR", "1")
     monkeypatch.setenv("COLUMNS", "80")
     waits = [
         lambda: (tmp_path / "pids.current").write_text("3\n"),
@@ -366,9 +455,9 @@ def test_a_watch_draws_changes_until_the_directory_is_gone(tmp_path, monkeypatch
     monkeypatch.setattr(tree, "of_directory", lambda folder: of_directory(folder, "top"))
     screen = Screen(is_terminal)
     tree.watch(str(tmp_path), 5, screen)
-    first, second = "top\n", "top" + " " * 16 + "3/max\n"
+    first, second = "top\n", "top" + " " * 16 + "3/?\n"
     clear = "\x1b[H\x1b[2J"
-    wanted = clear + first + clear + second if is_terminal else f"{first}\n{second}"
+    wanted = clear + first + clear + second if clears else f"{first}\n{second}"
     assert screen.getvalue() == wanted and waits == [] and closed == [str(tmp_path)]
     assert [text.count("top") for text in screen.flushed] == [1, 2] and followed == [None, 3, 3], "each is seen at once"
 
