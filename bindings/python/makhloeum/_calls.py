@@ -7,8 +7,10 @@ and taken away by the last, so mounts may end in any order. Each calls `was`, th
 from __future__ import annotations
 
 import builtins
+import contextlib
 import errno
 import io
+import operator
 import os
 import re
 import threading
@@ -17,7 +19,7 @@ from typing import Any, Callable, Iterator
 from . import _audit, _names
 from ._descriptors import Shared
 from ._fd_calls import DescriptorCalls
-from ._replace import Place, Replacement
+from ._replace import Place, Replacement, in_place
 from ._table import TEXT_MAX
 from ._tree import Node, RawFile, Tree, error
 
@@ -47,19 +49,34 @@ _REFUSED = {
 _WITHOUT_EFFECT = ("chmod", "lchmod", "fchmod", "chown", "lchown", "fchown", "utime")
 _OF_TWO_NAMES = {"rename": _names.rename, "replace": _names.rename, "link": _names.link}
 _SYNCS = ("fsync", "fdatasync")
+# Functions that take a file object for its descriptor, too.
+_OF_FILES = (*_SYNCS, "fchdir")
+_OF_DESCRIPTORS = (*_OF_FILES, "fchmod", "fchown", "fstatvfs", "fpathconf")
+_NO_DESCRIPTOR = (1 << 31) - 1
 _OF_A_NAME: dict[str, Callable[..., None]] = {
     "unlink": _names.unlink,
     "remove": _names.unlink,
     "mkfifo": _names.mkfifo,
     "mknod": _names.mknod,
 }
+_REAL = {
+    name: getattr(os, name)
+    for name in ("mkdir", *_REFUSED, *_WITHOUT_EFFECT, *_SYNCS, *_OF_A_NAME)
+    if hasattr(os, name)
+}
 # Functions that take a symbolic link for itself.
 _OF_LINKS = (*_OF_TWO_NAMES, *_OF_A_NAME, "lchmod", "lchown")
 _LINK = re.compile(r"(?:/proc/(?P<process>self|thread-self|\d+)(?:/task/\d+)?|/dev)/fd/(?P<fd>\d+)")
 
 
+class _IsServed(Exception):
+    """The descriptor that an opener returned is that of a served file."""
+
+
 class _Entry:
-    """What os.scandir gives."""
+    """What os.scandir gives. It keeps its first stat."""
+
+    _kept: os.stat_result | None = None
 
     def __init__(self, node: Node, name: Any, path: Any) -> None:
         self._node, self.name, self.path = node, name, path
@@ -71,7 +88,7 @@ class _Entry:
         return f"<DirEntry {self.name!r}>"
 
     def inode(self) -> int:
-        return self._node.stat().st_ino
+        return self._node.number()
 
     def is_dir(self, *, follow_symlinks: bool = True) -> bool:
         return self._node.file is None
@@ -86,7 +103,8 @@ class _Entry:
         return False
 
     def stat(self, *, follow_symlinks: bool = True) -> os.stat_result:
-        return self._node.stat()
+        self._kept = self._kept or self._node.stat()
+        return self._kept
 
 
 class _Scan:
@@ -120,16 +138,21 @@ class Calls(DescriptorCalls):
     # ---- what is mounted
 
     def _places(self) -> list[Place]:
-        opens = self.open
+        opens = in_place(io, "open", self.open)
         places = [
             Place(io, "open", "open", opens),
             Place(builtins, "open", "open", opens),
-            Place(os, "open", "os_open", self.os_open),
+            Place(os, "open", "os_open", in_place(os, "open", self.os_open)),
         ]
-        places += [Place(os, name, name, getattr(self, name)) for name in _SERVED if hasattr(os, name)]
-        places += [Place(os, name, name, self.of_two_names(name)) for name in _OF_TWO_NAMES]
         others = (*_REFUSED, *_WITHOUT_EFFECT, *_SYNCS, *_OF_A_NAME)
-        return places + [Place(os, name, name, self.other(name)) for name in others if hasattr(os, name)]
+        functions = {name: getattr(self, name) for name in _SERVED}
+        functions.update({name: self.of_two_names(name) for name in _OF_TWO_NAMES})
+        functions.update({name: self.other(name) for name in others})
+        return places + [
+            Place(os, name, name, in_place(os, name, function))
+            for name, function in functions.items()
+            if hasattr(os, name)
+        ]
 
     def mount(self, at: str, tree: Tree) -> None:
         with self._lock:
@@ -177,6 +200,8 @@ class Calls(DescriptorCalls):
         if isinstance(path, int):
             opened = self.descriptors.get(path)
             return opened.node if isinstance(opened, RawFile) else opened
+        if not isinstance(path, (str, bytes, os.PathLike)):
+            return None  # the real function takes it, or says what is wrong with it
         shown = os.fsdecode(path)
         if "\0" in shown:
             raise ValueError("embedded null byte")
@@ -184,7 +209,9 @@ class Calls(DescriptorCalls):
         number = _number_of(shown) if follows and shown.startswith(("/proc/", "/dev/")) else None
         linked = None if number is None else self.node(number)
         if linked is not None:
-            return Node(linked.tree, linked.group, linked.file, shown)
+            node = Node(linked.tree, linked.group, linked.file, shown)
+            node.last, node.gone = linked.path.rpartition("/")[2], linked.gone
+            return node
         if not name.startswith("/"):
             base = self.descriptors.get(dir_fd)
             if dir_fd is not None and base is None:
@@ -195,7 +222,11 @@ class Calls(DescriptorCalls):
                 raise error(errno.ENOTDIR, shown)
             if base is not None and base.gone:
                 return _in_removed(base, name, shown)
-            name = os.path.join(os.getcwd() if base is None else self._at(base.tree) + base.group, name)
+            try:
+                above = os.getcwd() if base is None else self._at(base.tree) + base.group
+            except FileNotFoundError:
+                return None  # the working directory was removed
+            name = os.path.join(above, name)
         return self._found(name, shown)
 
     def _found(self, name: str, shown: str) -> Node | None:
@@ -241,45 +272,53 @@ class Calls(DescriptorCalls):
         opener: Any = None,
     ) -> Any:
         node = self.node(file)
+        asks = opener is not None and not isinstance(file, int)
         if node is None:
-            return self.was["open"](file, mode, buffering, encoding, errors, newline, closefd, opener)
-        binary = _is_binary(mode, buffering, encoding, errors, newline)
+            asked = self._asking(opener) if asks else opener
+            try:
+                return self.was["open"](file, mode, buffering, encoding, errors, newline, closefd, asked)
+            except _IsServed as it:
+                raw = Shared(self.descriptors, it.args[0], True, os.fspath(file), mode)
+                return _over(raw, mode, buffering, encoding, errors, newline)
+        _check(mode, buffering, encoding, errors, newline)
         if not closefd and not isinstance(file, int):
             raise ValueError("Cannot use closefd=False with file name")
-        if opener is not None and not isinstance(file, int):
-            fd = opener(file, _flags(mode))
-            return self.open(fd, mode, buffering, encoding, errors, newline)
-        raw = self._file(file, node, mode, closefd)
-        if buffering == 0:
-            return raw
-        kind = (
-            io.BufferedRandom
-            if raw.readable() and raw.writable()
-            else io.BufferedReader
-            if raw.readable()
-            else io.BufferedWriter
-        )
-        buffered = kind(raw)
-        if binary:
-            return buffered
-        text = io.TextIOWrapper(buffered, encoding or "utf-8", errors, newline, line_buffering=buffering == 1)
-        setattr(text, "mode", mode)
-        return text
+        if asks:
+            fd = opener(os.fspath(file), _flags(mode))
+            if not isinstance(fd, int):
+                raise TypeError("expected integer from opener")
+            if self.descriptors.get(fd) is None:
+                return self.was["open"](fd, mode, buffering, encoding, errors, newline)
+            raw = Shared(self.descriptors, fd, True, os.fspath(file), mode)
+        else:
+            raw = self._file(file, node, mode, closefd)
+        return _over(raw, mode, buffering, encoding, errors, newline)
+
+    def _asking(self, opener: Callable[..., Any]) -> Callable[..., Any]:
+        """The opener of a real file, which may return the descriptor of a served one."""
+
+        def asked(path: Any, flags: int) -> Any:
+            fd = opener(path, flags)
+            if self.descriptors.get(fd) is not None:
+                raise _IsServed(fd)
+            return fd
+
+        return asked
 
     def _file(self, file: Any, node: Node, mode: str, closefd: bool) -> Shared:
         if isinstance(file, int):
-            return Shared(self.descriptors, file, closefd, file)
+            return Shared(self.descriptors, file, closefd, file, mode)
         raw = self._opened(node, _flags(mode))
         if isinstance(raw, Node):
             raise error(errno.EISDIR, node.shown)
-        return Shared(self.descriptors, self.descriptors.add(raw), True, node.shown)
+        return Shared(self.descriptors, self.descriptors.add(raw), True, os.fspath(file), mode)
 
     def _opened(self, node: Node, flags: int) -> Node | RawFile:
         node = _names.open_node(node, flags)
         if node.file is None or flags & os.O_PATH:
             return node
         way = flags & os.O_ACCMODE
-        return RawFile(node, way != os.O_WRONLY, way != os.O_RDONLY)
+        return RawFile(node, way != os.O_WRONLY, way != os.O_RDONLY, bool(flags & os.O_APPEND))
 
     def os_open(self, path: Any, flags: int, mode: int = 0o777, *, dir_fd: int | None = None) -> Any:
         node = self.node(path, dir_fd)
@@ -338,6 +377,7 @@ class Calls(DescriptorCalls):
         node = self.node(path, dir_fd, False)
         if node is None:
             return self.was["mkdir"](path, mode, dir_fd=dir_fd)
+        _check_others("mkdir", (path, mode), {})
         _names.mkdir(node)
 
     def rmdir(self, path: Any, *, dir_fd: int | None = None) -> Any:
@@ -367,6 +407,8 @@ class Calls(DescriptorCalls):
         node.check()
         if node.file is None:
             raise error(errno.EISDIR, node.shown)
+        if os.geteuid() != 0 and not node.file.writable:
+            raise error(errno.EACCES, node.shown)
 
     def ftruncate(self, fd: int, length: int) -> Any:
         """The text of a file stays as it is, but the descriptor has to be one for writing."""
@@ -380,18 +422,22 @@ class Calls(DescriptorCalls):
         """A function that a mount refuses, or that does nothing there."""
 
         def call(*words: Any, **more: Any) -> Any:
-            given = [*words, *(more[key] for key in ("path", "fd") if key in more)]
-            node = self.node(given[0], more.get("dir_fd"), name not in _OF_LINKS)
+            given = [*words, *(more[key] for key in ("path", "fd") if key in more), None][0]
+            if name in _OF_FILES and hasattr(given, "fileno"):
+                given = given.fileno()
+            is_wrong = name in _OF_DESCRIPTORS and not isinstance(given, int)
+            node = None if is_wrong else self.node(given, more.get("dir_fd"), name not in _OF_LINKS)
             if node is None:
                 return self.was[name](*words, **more)
+            _check_others(name, words, more)
             if name in _OF_A_NAME:
                 kind = [*words[1:2], *(more[key] for key in ("mode",) if key in more)] if name == "mknod" else []
                 return _OF_A_NAME[name](node, *kind)
             node.check()
             if name in _SYNCS and node.file is None:
-                raise error(errno.EINVAL, str(given[0]))
+                raise error(errno.EINVAL, str(given))
             if name in _REFUSED:
-                raise error(_REFUSED[name], str(given[0]) if isinstance(given[0], int) else os.fsdecode(given[0]))
+                raise error(_REFUSED[name], str(given) if isinstance(given, int) else os.fsdecode(given))
             return None
 
         return call
@@ -403,11 +449,20 @@ class Calls(DescriptorCalls):
             node = self.node(src, src_dir_fd, False)
             if node is not None:  # before the other path is looked at
                 node.check() if name == "link" else _names.enter_parent(node)
-            to = self.node(dst, dst_dir_fd, False)
+
+            def look_at_first() -> None:
+                self.was["lstat"](src if name == "link" else os.path.dirname(src) or os.curdir, dir_fd=src_dir_fd)
+
+            try:
+                to = self.node(dst, dst_dir_fd, False)
+            except OSError:
+                if node is None:
+                    look_at_first()
+                raise
             if node is None and to is None:
                 return self.was[name](src, dst, src_dir_fd=src_dir_fd, dst_dir_fd=dst_dir_fd, **more)
             if node is None:
-                self.was["lstat"](src if name == "link" else os.path.dirname(src) or os.curdir, dir_fd=src_dir_fd)
+                look_at_first()
             elif to is None:
                 self.was["lstat"](os.path.dirname(dst) or os.curdir, dir_fd=dst_dir_fd)
             return _OF_TWO_NAMES[name](node, to)
@@ -422,6 +477,14 @@ class Calls(DescriptorCalls):
         if node is None:
             return self.was["symlink"](src, dst, target_is_directory, dir_fd=dir_fd)
         return _names.symlink(node)
+
+
+def _check_others(name: str, words: tuple[Any, ...], more: dict[str, Any]) -> None:
+    """Raises what is wrong with the other arguments: the real function says so before it finds that this path or descriptor is none."""
+    none = _NO_DESCRIPTOR if name in _OF_DESCRIPTORS else ""
+    others = {key: none if key in ("path", "fd") else value for key, value in more.items()}
+    with contextlib.suppress(OSError):
+        _REAL[name](*(none, *words[1:])[: len(words)], **others)
 
 
 def _in_removed(base: Node, name: str, shown: str) -> Node:
@@ -452,8 +515,9 @@ def _flags(mode: str) -> int:
     return os.O_CLOEXEC | way | made[(set(mode) & set(made)).pop()]
 
 
-def _is_binary(mode: str, buffering: int, encoding: Any, errors: Any, newline: Any) -> bool:
+def _check(mode: str, buffering: int, encoding: Any, errors: Any, newline: Any) -> None:
     """What open checks before it opens anything."""
+    operator.index(buffering)
     letters = set(mode)
     if letters - set("rwxabt+") or len(letters) < len(mode) or len(letters & set("rwxa")) != 1 or {"b", "t"} <= letters:
         raise ValueError(f"invalid mode: {mode!r}")
@@ -462,7 +526,30 @@ def _is_binary(mode: str, buffering: int, encoding: Any, errors: Any, newline: A
         raise ValueError("binary mode doesn't take an encoding, errors or newline argument")
     if buffering == 0 and not binary:
         raise ValueError("can't have unbuffered text I/O")
-    return binary
+
+
+def _over(raw: Shared, mode: str, buffering: int, encoding: Any, errors: Any, newline: Any) -> Any:
+    """What open returns over the file without a buffer, which is closed if that can't be made."""
+    try:
+        _check(mode, buffering, encoding, errors, newline)
+        if buffering == 0:
+            return raw
+        kind = (
+            io.BufferedRandom
+            if raw.readable() and raw.writable()
+            else io.BufferedReader
+            if raw.readable()
+            else io.BufferedWriter
+        )
+        buffered = kind(raw, buffering if buffering > 1 else io.DEFAULT_BUFFER_SIZE)
+        if "b" in mode:
+            return buffered
+        text = io.TextIOWrapper(buffered, encoding, errors, newline, line_buffering=buffering == 1)
+    except BaseException:
+        raw.close()
+        raise
+    setattr(text, "mode", mode)
+    return text
 
 
 CALLS = Calls()

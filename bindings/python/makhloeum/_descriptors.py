@@ -9,8 +9,10 @@ from __future__ import annotations
 import errno
 import io
 import os
+import warnings
 from typing import Any, Callable, Union
 
+from ._replace import nameless
 from ._tree import Node, RawFile, Tree, error
 
 Opened = Union[Node, RawFile]
@@ -86,53 +88,99 @@ class Descriptors:
         return opened
 
 
-class Shared(io.RawIOBase):
-    """A file object over a served descriptor, which it closes or not. The open file is that of the descriptor."""
+class _Unclosed:
+    """Warns of a file when it is freed, which is at once: where the warning is an error, that is reported, and the file is closed."""
 
-    def __init__(self, table: Descriptors, fd: int, closes: bool, name: Any) -> None:
+    def __init__(self, source: Any) -> None:
+        self._source = source
+
+    def __del__(self) -> None:
+        warnings.warn(f"unclosed file {self._source!r}", ResourceWarning, stacklevel=3, source=self._source)
+
+
+class Shared(io.RawIOBase):
+    """A file object over a served descriptor, which it closes or not. The open file is that of the descriptor; the mode is its own, and
+    says what it allows."""
+
+    closefd = False
+
+    def __init__(self, table: Descriptors, fd: int, closefd: bool, name: Any, mode: str) -> None:
         self._raw = table.raw(fd)
-        self._table, self._fd, self._closes = table, fd, closes
-        self.name, self.mode = name, self._raw.mode
+        self._table, self._fd, self.closefd, self.name = table, fd, closefd, name
+        self._reads, self._writes = "r" in mode or "+" in mode, "r" not in mode or "+" in mode
+        way = "a" if "a" in mode else "x" if "x" in mode else "r" if self._reads else "w"
+        self.mode = way + ("b+" if self._reads and self._writes else "b")
+        if "a" in mode:
+            self._raw.seek_end()
+
+    def __repr__(self) -> str:
+        return f"<makhloeum file name={self.name!r} mode={self.mode!r} closefd={self.closefd}>"
 
     def close(self) -> None:
         if not self.closed:
+            if self.closefd and getattr(self, "_finalizing", False):  # as the interpreter says
+                _Unclosed(self)
             super().close()
-            if self._closes:
+            if self.closefd:
                 self._table.close(self._fd)
 
-    def _file(self) -> RawFile:
-        """The open file, while this object isn't closed; others may be open still."""
+    def _dealloc_warn(self, source: Any) -> None:
+        """The objects of io that are above call it, too."""
+        if self.closefd and not self.closed:
+            _Unclosed(source)
+
+    def _open(self) -> None:
+        """Raises if this object is closed; others of the file may be open still."""
         if self.closed:
             raise ValueError("I/O operation on closed file")
+
+    def _file(self) -> RawFile:
+        """The open file, unless its descriptor was closed by itself."""
+        self._open()
+        if self._raw.closed:
+            raise OSError(errno.EBADF, os.strerror(errno.EBADF))
         return self._raw
 
     def fileno(self) -> int:
-        self._file()
+        self._open()
         return self._fd
 
     def readable(self) -> bool:
-        return self._file().readable()
+        self._open()
+        return self._reads
 
     def writable(self) -> bool:
-        return self._file().writable()
+        self._open()
+        return self._writes
 
     def seekable(self) -> bool:
         return self._file().seekable()
 
     def seek(self, offset: int, whence: int = os.SEEK_SET) -> int:
-        return self._file().seek(offset, whence)
+        return int(nameless(self._file().seek, offset, whence))
 
     def tell(self) -> int:
         return self._file().tell()
 
+    def _allow(self, allowed: bool, what: str) -> None:
+        self._open()
+        if not allowed:
+            raise io.UnsupportedOperation(f"File not open for {what}")
+
     def truncate(self, size: int | None = None) -> int:
-        return self._file().truncate(size)
+        self._allow(self._writes, "writing")
+        raw = self._file()
+        if not raw.writable() or (size is not None and size < 0):
+            raise OSError(errno.EINVAL, os.strerror(errno.EINVAL))
+        return raw.truncate(size)
 
     def readinto(self, buffer: Any) -> int:
-        return self._file().readinto(buffer)
+        self._allow(self._reads, "reading")
+        return int(nameless(self._file().readinto, buffer))
 
     def write(self, data: Any) -> int:
-        return self._file().write(data)
+        self._allow(self._writes, "writing")
+        return int(nameless(self._file().write, data))
 
 
 def at_position(raw: RawFile, offset: int, call: Callable[[], Any]) -> Any:

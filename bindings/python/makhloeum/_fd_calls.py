@@ -2,10 +2,19 @@
 
 from __future__ import annotations
 
+import errno
+import operator
 from typing import Any, Callable
 
 from ._descriptors import Descriptors, at_position, scatter
-from ._tree import Node
+from ._tree import Node, RawFile, error
+
+
+def _part(raw: RawFile, size: int) -> bytes:
+    """A read of that many bytes, or fewer: of a file object -1 means all, of a descriptor it is an error."""
+    if operator.index(size) < 0:
+        raise error(errno.EINVAL, raw.name)
+    return raw.read(size) or b""
 
 
 class DescriptorCalls:
@@ -14,11 +23,7 @@ class DescriptorCalls:
         self.was: dict[str, Callable[..., Any]] = {}
 
     def read(self, fd: int, size: int) -> Any:
-        return (
-            self.was["read"](fd, size)
-            if self.descriptors.get(fd) is None
-            else self.descriptors.raw(fd).read(size) or b""
-        )
+        return self.was["read"](fd, size) if self.descriptors.get(fd) is None else _part(self.descriptors.raw(fd), size)
 
     def readv(self, fd: int, buffers: Any) -> Any:
         if self.descriptors.get(fd) is None:
@@ -29,7 +34,7 @@ class DescriptorCalls:
         if self.descriptors.get(fd) is None:
             return self.was["pread"](fd, size, offset)
         raw = self.descriptors.raw(fd)
-        return at_position(raw, offset, lambda: raw.read(size) or b"")
+        return at_position(raw, offset, lambda: _part(raw, size))
 
     def preadv(self, fd: int, buffers: Any, offset: int, flags: int = 0) -> Any:
         if self.descriptors.get(fd) is None:

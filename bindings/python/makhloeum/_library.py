@@ -81,7 +81,10 @@ def _places() -> Iterator[str]:
         yield given
         return
     above = os.path.join(here, "..", "..")
-    for folder in (here, os.path.join(above, "out"), os.path.join(above, "..", "..", "lib")):
+    lib = os.path.join(above, "..", "..", "lib")
+    if not os.path.exists(os.path.join(lib, _NAME)):
+        lib = os.path.normpath(lib)  # share may be a link in the prefix
+    for folder in (here, os.path.join(above, "out"), lib):
         if os.path.exists(os.path.join(folder, _NAME)):
             yield os.path.join(folder, _NAME)
     yield _NAME

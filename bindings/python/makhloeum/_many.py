@@ -2,6 +2,7 @@
 
 from __future__ import annotations
 
+import contextlib
 import ctypes
 from typing import Any, Iterable
 
@@ -13,10 +14,11 @@ _BYTES_EACH = 64
 
 
 def _pair(pair: tuple[Path, str]) -> tuple[Path, str]:
-    if isinstance(pair, (str, bytes)):
-        raise TypeError(f"read_many: {pair!r} is not a pair of a path and a file's name")
-    path, file = pair
-    return path, file
+    if not isinstance(pair, (str, bytes)):
+        with contextlib.suppress(TypeError, ValueError):
+            path, file = pair
+            return path, file
+    raise TypeError(f"read_many: {pair!r} is not a pair of a path and a file's name")
 
 
 class Many:

@@ -119,7 +119,9 @@ def open_node(node: Node, flags: int) -> Node:
     writes = way != os.O_RDONLY or flags & os.O_TRUNC
     if flags & os.O_CREAT and flags & os.O_DIRECTORY:
         raise error(errno.EINVAL, node.shown)
-    if flags & os.O_CREAT:
+    if node.gone and node.file is not None and not flags & os.O_PATH:
+        raise error(errno.ENODEV, node.shown)
+    if flags & os.O_CREAT and not node.gone:
         _open_new(node, flags)
     else:
         node.check()

@@ -5,6 +5,7 @@ status is that of a failed write. Nothing is said, and the status is 141, if nob
 
 from __future__ import annotations
 
+import codecs
 import errno
 import io
 import os
@@ -15,6 +16,20 @@ if TYPE_CHECKING:
     from typing import Any, Callable, Optional
 
 _NOBODY_READS = 141  # as a shell says that SIGPIPE ended a program
+
+
+_ESCAPES = "makhloeum.surrogateescape"
+
+
+def _escaped(failure: Any) -> Any:
+    """Of the C locale: surrogateescape, where each character is a byte that was no text, and else backslashreplace."""
+    try:
+        return codecs.lookup_error("surrogateescape")(failure)
+    except UnicodeError:
+        return codecs.backslashreplace_errors(failure)
+
+
+codecs.register_error(_ESCAPES, _escaped)
 
 
 class WriteFailed(Exception):
@@ -68,7 +83,7 @@ def _text(raw: io.FileIO, like: Any) -> io.TextIOWrapper:
     return io.TextIOWrapper(
         (_Unbuffered if getattr(like, "write_through", False) else io.BufferedWriter)(raw),
         encoding=getattr(like, "encoding", None),
-        errors="backslashreplace" if errors == "strict" else errors,
+        errors={"strict": "backslashreplace", "surrogateescape": _ESCAPES}.get(str(errors), errors),
         line_buffering=getattr(like, "line_buffering", False),
         write_through=getattr(like, "write_through", False),
     )

@@ -2,6 +2,7 @@
 
 from __future__ import annotations
 
+import functools
 import glob
 import os
 import threading
@@ -11,11 +12,56 @@ from typing import Any, Callable, NamedTuple
 _SETS = (os.supports_fd, os.supports_dir_fd, os.supports_effective_ids, os.supports_follow_symlinks)
 
 
+# Errors of these have both paths, and errors of those none.
+_OF_TWO_PATHS = ("rename", "replace", "link", "symlink")
+_NAMELESS = (
+    *("read", "write", "readv", "writev", "pread", "pwrite", "preadv", "pwritev", "lseek", "dup", "dup2", "close"),
+    *("fstat", "ftruncate", "fsync", "fdatasync", "fchdir", "fchmod", "fchown", "fstatvfs", "fpathconf"),
+    *("mkfifo", "mknod"),
+)
+
+
 class Place(NamedTuple):
     module: Any
     name: str
     key: str  # in `was`
     function: Callable[..., Any]
+
+
+def in_place(module: Any, name: str, function: Callable[..., Any]) -> Callable[..., Any]:
+    """The function for the place of a real one. It has the real one's name, so that it can be pickled, and its errors name what those
+    of the real one do."""
+
+    @functools.wraps(getattr(module, name))
+    def served(*words: Any, **more: Any) -> Any:
+        try:
+            return function(*words, **more)
+        except OSError as failure:
+            given = [*words, *(more[key] for key in ("path", "file", "src", "dst") if key in more), None, None]
+            _name(failure, name, given[0], given[1])
+            raise
+
+    served.__module__ = module.__name__
+    return served
+
+
+def _name(failure: OSError, name: str, first: Any, second: Any) -> None:
+    """Gives the error the paths as the caller gave them."""
+    if name in _OF_TWO_PATHS:
+        failure.filename, failure.filename2 = os.fspath(first), os.fspath(second)
+    elif name in _NAMELESS:
+        del failure.filename
+    elif isinstance(failure.filename, str) and isinstance(first, (int, bytes)):
+        failure.filename = first
+
+
+def nameless(call: Callable[..., Any], *words: Any) -> Any:
+    """What the call returns. Its errors have no path, as those of an open file."""
+    try:
+        return call(*words)
+    except OSError as failure:
+        del failure.filename
+        raise
 
 
 class Replacement:

@@ -6,6 +6,7 @@ import contextlib
 import ctypes
 import errno
 import io
+import operator
 import os
 import stat
 import time
@@ -13,14 +14,14 @@ import weakref
 import zlib
 from typing import Any, Iterator
 
-from ._library import DONE, FAILED, FAULT, REFUSED, Info, library, patient
+from ._library import DONE, FAILED, FAULT, REFUSED, TOO_SMALL, Info, library, patient
 from ._notify import Poller, Watch
 from ._table import NOTIFIED
 from ._words import _c_text, _raise
 from .errors import BadPath, NoGroup, PathTooLong
 from .hierarchy import Hierarchy
 
-_DEVICE = 0x6D6B0001
+_DEVICE = 0x6D6B0000  # to which the number of the hierarchy is added
 _BORN = time.time_ns()
 _TIMES = (_BORN // 10**9,) * 3
 _MORE = {
@@ -112,11 +113,16 @@ class Node:
         """Of a file the end is that of its text; of a group it is 0, and each listing begins at the first name."""
         end = self.stat().st_size if whence == os.SEEK_END else 0
         bases = {os.SEEK_SET: 0, os.SEEK_CUR: self.position, os.SEEK_END: end}
-        position = offset + bases.get(whence, 0)
+        position = operator.index(offset) + bases.get(whence, 0)
         if position < 0 or whence not in bases:
             raise error(errno.EINVAL, self.shown)
         self.position = position
         return position
+
+    def number(self) -> int:
+        """That of the inode."""
+        name = f"{self.group}\0{self.name}"
+        return 1 if name == "/\0" else 2 + zlib.crc32(name.encode())
 
     def stat(self) -> os.stat_result:
         if self.is_folder and self.file is not None:
@@ -129,9 +135,8 @@ class Node:
         else:
             self.check()
             mode, links, size = stat.S_IFREG | 0o200, 1, 0
-        name = f"{self.group}\0{self.name}"
-        number = 1 if name == "/\0" else 2 + zlib.crc32(name.encode())
-        return os.stat_result((mode, number, _DEVICE, links, os.getuid(), os.getgid(), size, *_TIMES), _MORE)
+        device = _DEVICE + self.tree.h._handle.serial
+        return os.stat_result((mode, self.number(), device, links, os.getuid(), os.getgid(), size, *_TIMES), _MORE)
 
 
 # Each tree that is mounted: several may be of one hierarchy.
@@ -164,11 +169,21 @@ class Tree:
             return Node(self, parent or "/", file, shown)
         return Node(self, path, None, shown)
 
-    def _has_group(self, group: str) -> bool:
+    def _looked(self, group: str, file: str) -> tuple[int, Any]:
         """Faults don't count this call: a text that differs from the empty one is returned at once."""
         text, info = ctypes.create_string_buffer(64), Info()
-        words = (_c_text(group), b"cgroup.stat", b"", 0, text, len(text), ctypes.byref(info))
-        return bool(patient.mk_wait_file(self.h._at, *words) == DONE)
+        words = (_c_text(group), file.encode(), b"", 0, text, len(text), ctypes.byref(info))
+        return int(patient.mk_wait_file(self.h._at, *words)), info
+
+    def _has_group(self, group: str) -> bool:
+        return self._looked(group, "cgroup.stat")[0] == DONE
+
+    def size(self, node: Node) -> int:
+        """The length of the file's text. Faults count the call only if the engine doesn't know the file."""
+        status, info = self._looked(node.group, node.name)
+        if status == FAULT:
+            return node.stat().st_size
+        return int(info.len if status == DONE else info.needed - 1 if status == TOO_SMALL else 0)
 
     def enter(self, path: str, shown: str) -> None:
         """Raises what a look-up that goes through that path raises, unless it is a group: the first name that isn't one decides."""
@@ -216,10 +231,10 @@ class Tree:
 class RawFile(io.RawIOBase):
     """An open file. Each write is one write to the file; a read from the start reads the current text."""
 
-    def __init__(self, node: Node, reads: bool, writes: bool) -> None:
-        self.node, self._reads, self._writes = node, reads, writes
+    def __init__(self, node: Node, reads: bool, writes: bool, appends: bool) -> None:
+        self.node, self._reads, self._writes, self._appends = node, reads, writes, appends
         self._text, self._read_to = b"", -1
-        self.name, self.mode = node.shown, ("rb+" if writes else "rb") if reads else "wb"
+        self.name = node.shown
         self.poller = Poller(node.group, node.name) if node.name in NOTIFIED else None
         node.tree.add(node)
         if self.poller is not None:
@@ -249,6 +264,10 @@ class RawFile(io.RawIOBase):
         """Does nothing, as in the kernel."""
         return self.node.position if size is None else size
 
+    def seek_end(self) -> None:
+        """To the end of the text, as open does to append."""
+        self.node.position = self.node.tree.size(self.node)
+
     def _current(self) -> bytes:
         try:
             text = b"" if self.node.gone and self.node.file.readable else self.node.text()
@@ -275,16 +294,17 @@ class RawFile(io.RawIOBase):
     def write(self, data: Any) -> int:
         if not self._writes:
             raise error(errno.EBADF, self.name)
-        data = bytes(data)
+        data = memoryview(data).tobytes()  # bytes(5) would be five zero bytes
         if not data:
             return 0
+        at = self.node.tree.size(self.node) if self._appends else self.node.position
         number = errno.EINVAL if not self.node.file.writable else errno.ENODEV if self.node.gone else self._put(data)
         if number != 0:
             raise error(number, self.name)
         self.node.tree.watch.look()
         if self.node.name == "cgroup.freeze":
             self.node.tree.freeze(self.node.group)
-        self.node.position += len(data)
+        self.node.position = at + len(data)
         return len(data)
 
     def _put(self, data: bytes) -> int:

@@ -21,7 +21,12 @@ _BEYOND = 1 << 64
 
 def _bytes(text: Path) -> bytes:
     text = os.fspath(text)
-    return bytes(text) if isinstance(text, bytes) else text.encode("utf-8", "surrogateescape")
+    if isinstance(text, bytes):
+        return bytes(text)
+    try:
+        return text.encode("utf-8", "surrogateescape")
+    except UnicodeEncodeError:  # half of a pair of surrogates, which no path, file or value has
+        return text.encode("utf-8", "surrogatepass")
 
 
 def _text(text: Path | Value) -> str:

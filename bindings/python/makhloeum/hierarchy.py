@@ -97,8 +97,10 @@ class Hierarchy(Changes, Faults, Many):
     def __del__(self, _warn: Any = warnings.warn, _close: Any = library.mk_close) -> None:
         if getattr(self, "_closed", True):
             return
-        _warn(f"unclosed {self!r}", ResourceWarning, source=self)
-        _close(self._at)
+        try:
+            _warn(f"unclosed {self!r}", ResourceWarning, source=self)
+        finally:  # the warning may be an error
+            _close(self._at)
 
     def copy(self) -> Hierarchy:
         """A new hierarchy with the same groups, processes, counts and recorded commands. From then on the two are

@@ -434,7 +434,7 @@ def _path_and_flags(calls: list[Call], real: Any, memory: Any) -> bool:
 
 
 MAY_DIFFER: dict[str, Callable[[list[Call], Any, Any], bool]] = {
-    "mounted_at shows no mode that a program sets: an engine has none": _only_modes,
+    "mounted_at shows no mode, owner or time that a program sets: an engine has none": _only_modes,
     "a listing by a descriptor has all names, wherever it was sought: the places of names are a file system's own": _begins_elsewhere,
     "`..` of the descriptor of the place names nothing: the descriptor is only a number": _leads_out_by_a_descriptor,
     "os.open with O_CREAT and O_DIRECTORY: the kernel refuses the flags before it looks at the path": _path_and_flags,

@@ -1,5 +1,6 @@
 """Served files beside real ones: each call is made on both, and answers alike. What a cgroup file does otherwise is in tables."""
 
+import array
 import errno
 import io
 import os
@@ -77,6 +78,133 @@ def test_an_opener_is_given_the_flags_that_a_real_file_has(h, tmp_path, mode):
             open(path, mode, opener=opener)
     (served, flags), (_, wanted) = given
     assert served == f"{AT}/a/pids.max" and flags == wanted
+
+
+@pytest.mark.parametrize("mode, buffering", [("r", -1), ("rb", -1), ("rb", 0)])
+def test_an_opener_finds_the_file(h, real, mode, buffering):
+    """Beside a descriptor, or another file than the one that is named; the file object has the name that was given."""
+    for top in (AT, real):
+        folder = os.open(f"{top}/a", os.O_RDONLY)
+
+        def beside(path, flags):
+            assert type(path) in (str, bytes)
+            return os.open(os.path.basename(path), flags, dir_fd=folder)
+
+        for given in ("pids.max", b"pids.max", pathlib.Path("elsewhere", "pids.max"), f"{top}/a/pids.max"):
+            with open(given, mode, buffering, opener=beside) as file:
+                assert file.name == os.fspath(given) and file.mode == mode
+                assert file.read() in ("max\n", b"max\n")
+        os.close(folder)
+    with open(os.fsencode(f"{AT}/a/pids.max")) as file:
+        assert file.name == os.fsencode(f"{AT}/a/pids.max")
+
+
+@pytest.mark.parametrize(
+    "found, kind", [(None, TypeError), ("/dev/null", TypeError), (1.5, TypeError), (-1, ValueError)]
+)
+def test_an_opener_returns_a_descriptor(h, real, found, kind):
+    for given in (f"{AT}/a/pids.max", f"{real}/a/pids.max"):
+        with pytest.raises(kind):
+            open(given, opener=lambda path, flags: found)
+
+
+def outcome(call, *words):
+    """What a call returns, or the class and the errno of its error."""
+    try:
+        it = call(*words)
+        return it.__name__ if isinstance(it, type) else it
+    except (OSError, ValueError, TypeError, OverflowError) as failure:
+        return type(failure).__name__, getattr(failure, "errno", None)
+
+
+# what a file object refuses by its mode, whatever its descriptor could do
+BY_MODE = [
+    ("read", 1),
+    ("read", 0),
+    ("readline",),
+    ("readinto", bytearray(2)),
+    ("write", b""),
+    ("truncate",),
+    ("truncate", 1),
+    ("truncate", -1),
+    ("readable",),
+    ("writable",),
+    ("seek", 1.5),
+    ("tell",),
+]
+
+
+@pytest.mark.parametrize("mode", ["rb", "wb", "ab", "r+b", "a+b"])
+@pytest.mark.parametrize("buffering", [-1, 0])
+@pytest.mark.parametrize("flags", [None, os.O_RDONLY, os.O_WRONLY, os.O_RDWR])
+def test_a_file_object_does_what_its_mode_allows(h, real, mode, buffering, flags):
+    found = []
+    for top in (AT, real):
+        path, told = f"{top}/a/pids.max", []
+        with open(path if flags is None else os.open(path, flags), mode, buffering) as file:
+            told += [type(file).__name__ if buffering else None, file.mode]
+            if not buffering:
+                told.append(file.closefd)
+            for name, *words in BY_MODE:
+                if buffering == 0 or name not in ("read", "readline", "readinto", "truncate"):
+                    told.append((name, *words, outcome(getattr(file, name), *words)))
+        found.append(told)
+    assert found[0] == found[1]
+
+
+@pytest.mark.parametrize(
+    "mode, call", [("rb", "read"), ("rb", "readall"), ("wb", "write"), ("rb", "seek"), ("rb", "tell")]
+)
+def test_a_file_object_whose_descriptor_was_closed(h, real, mode, call):
+    for top in (AT, real):
+        file = open(f"{top}/a/pids.max", mode, 0)
+        os.close(file.fileno())
+        words = {"write": [b"5"], "seek": [0]}.get(call, [])
+        assert outcome(getattr(file, call), *words) == ("OSError", errno.EBADF)
+        assert not file.closed and outcome(file.close) == ("OSError", errno.EBADF)
+    assert h.limit("/a") is None
+
+
+WRONG = [
+    ("read", -1),
+    ("read", 1.0),
+    ("read", "1"),
+    ("pread", -1, 0),
+    ("pread", 1, 0.5),
+    ("pread", 1, -1),
+    ("lseek", 0.5, 0),
+    ("lseek", "0", 0),
+    ("write", 5),
+    ("write", [53]),
+    ("write", "5"),
+    ("write", None),
+    ("writev", b"5"),
+    ("writev", ["5"]),
+    ("pwrite", [53], 0),
+]
+
+
+@pytest.mark.parametrize("name, words", [(name, words) for name, *words in WRONG])
+def test_wrong_arguments_are_refused_as_by_a_real_file(h, real, name, words):
+    found = []
+    for top in (AT, real):
+        fd = os.open(f"{top}/a/pids.max", os.O_RDWR)
+        found.append((outcome(getattr(os, name), fd, *words), os.lseek(fd, 0, os.SEEK_CUR), os.pread(fd, 9, 0)))
+        os.close(fd)
+    assert found[0] == found[1] and isinstance(found[0][0], tuple)
+
+
+def test_what_is_written_may_be_any_bytes(h):
+    fd = os.open(f"{AT}/a/pids.max", os.O_RDWR)
+    for number, data in enumerate((b"1", bytearray(b"2"), memoryview(b"3"), array.array("b", [52])), 1):
+        assert os.write(fd, data) == 1 and h.limit("/a") == number
+    with open(f"{AT}/a/pids.max", "wb", 0) as file:
+        assert file.write(array.array("b", [55])) == 1 and h.limit("/a") == 7
+        for wrong in (5, [53], "5", None):
+            with pytest.raises(TypeError):
+                file.write(wrong)
+    assert h.limit("/a") == 7
+    os.close(fd)
 
 
 FLAGS = [
@@ -486,12 +614,10 @@ REFUSED = [
 def test_what_is_refused(h, number, early, more):
     call = getattr(os, early.__name__)
     for kind in (str, os.fsencode, pathlib.Path):
-        assert told(call, kind(f"{AT}/a/pids.max"), *more) == (
-            number,
-            f"{AT}/a/pids.max",
-        )
+        file, group = kind(f"{AT}/a/pids.max"), kind(f"{AT}/a")
+        assert told(call, file, *more) == (number, os.fspath(file))
         of_group = "EISDIR" if early.__name__ in ("unlink", "remove") else number
-        assert told(call, kind(f"{AT}/a"), *more) == (of_group, f"{AT}/a")
+        assert told(call, group, *more) == (of_group, os.fspath(group))
         # of what is renamed to elsewhere only the parent is looked up
         missing = "none/none" if number == "EXDEV" else "none"
         assert code(call, kind(f"{AT}/{missing}"), *more) == "ENOENT"
@@ -620,6 +746,91 @@ def test_a_file_is_synced_and_a_group_is_not(h):
         os.close(fd)
 
 
+@pytest.mark.parametrize("name", ["fsync", "fdatasync", "fchdir"])
+def test_a_file_object_stands_for_its_descriptor(h, real, name):
+    call, results = getattr(os, name), []
+    for top in (AT, real):
+        for open_as in ("r", "rb", "r+"):
+            with open(f"{top}/a/pids.max", open_as) as file:
+                results.append((code(call, file), code(call, fd=file)))
+        with pytest.raises(ValueError):  # the file is closed
+            call(file)
+    refused = "EOPNOTSUPP" if name == "fchdir" else "ok"
+    assert results == [(refused, refused)] * 3 + [("ENOTDIR", "ENOTDIR") if name == "fchdir" else ("ok", "ok")] * 3
+
+
+class Number:
+    """Of another class than int, as those of arrays."""
+
+    def __init__(self, number):
+        self.number = number
+
+    def __index__(self):
+        return self.number
+
+
+def test_what_is_no_path_reaches_the_real_function(h, real):
+    with open(f"{real}/a/pids.max") as file:
+        number = Number(file.fileno())
+        assert os.stat(number).st_size == os.fstat(number).st_size == 4 and os.access(real, os.R_OK)
+        assert open(number, closefd=False).read() == "max\n"
+    for call in (os.stat, os.listdir, os.chmod, os.unlink, os.mkdir, os.getxattr, os.fsync):
+        for words in ((1.5,), (object(),), ()):
+            if (call, words) != (os.listdir, ()):
+                with pytest.raises(TypeError):
+                    call(*words)
+    assert code(os.listxattr) in ("ok", "EOPNOTSUPP")  # of the working directory
+
+
+# what a call of the name refuses by its arguments alone
+MISTAKEN = [
+    ("chmod",),
+    ("chmod", "x"),
+    ("chmod", 0o600, 1),
+    ("lchown", 0),
+    ("chown", 0),
+    ("chown", "root", "root"),
+    ("chown", 1 << 40, 0),
+    ("utime", (1,)),
+    ("utime", "now"),
+    ("mkdir", "x"),
+    ("mknod", "x"),
+    ("mkfifo", "x"),
+    ("unlink", 1),
+    ("getxattr",),
+    ("setxattr", "user.x"),
+    ("pathconf", "PC_NOTHING"),
+    ("statvfs", 1),
+    ("chdir", 1),
+]
+
+
+@pytest.mark.parametrize("name, words", [(name, words) for name, *words in MISTAKEN])
+def test_mistaken_arguments_are_refused_as_by_a_real_file(h, real, name, words):
+    found = [outcome(getattr(os, name), f"{top}/a/pids.max", *words) for top in (AT, real)]
+    assert found[0] == found[1] and found[0][0] in ("TypeError", "ValueError", "OverflowError")
+
+
+def test_mistaken_arguments_by_name_are_refused(h):
+    path, fd = f"{AT}/a/pids.max", os.open(f"{AT}/a/pids.max", os.O_RDONLY)
+    for call, words, more in (
+        (os.utime, (path, (1, 2)), {"ns": (1, 2)}),
+        (os.utime, (), {"path": path, "times": "x"}),
+        (os.chmod, (path, 0o600), {"nothing": 1}),
+        (os.fchmod, (fd,), {}),
+        (os.fchmod, (path, 0o600), {}),
+        (os.fchown, (fd, "root", 0), {}),
+        (os.fsync, (path,), {}),
+    ):
+        with pytest.raises((TypeError, ValueError)):
+            call(*words, **more)
+    assert os.chmod(mode=0o600, path=path) is os.utime(path, ns=(1, 2), follow_symlinks=False) is None
+    folder = os.open(f"{AT}/a", os.O_RDONLY)
+    assert os.chmod("pids.max", 0o600, dir_fd=folder) is os.fchown(fd, -1, -1) is os.utime(fd) is None
+    os.close(folder)
+    os.close(fd)
+
+
 def test_calls_of_a_descriptor_that_do_nothing(h):
     fd = os.open(f"{AT}/a/pids.max", os.O_RDWR)
     assert [
@@ -736,6 +947,83 @@ def test_an_error_has_the_path_that_was_given(h, spelling):
     with pytest.raises(FileNotFoundError) as failed:
         os.stat(spelling)
     assert failed.value.strerror == os.strerror(errno.ENOENT) and failed.value.filename2 is None
+
+
+def names_in(failure):
+    return [failure.errno, failure.filename, failure.filename2, str(failure)]
+
+
+@pytest.mark.parametrize("name", ["rename", "replace", "link", "symlink"])
+def test_an_error_of_two_paths_has_both(h, real, name):
+    """`given` has the paths as the caller gave them, and whether they are bytes."""
+    for spelled in (os.fspath, os.fsencode, pathlib.Path):
+        for src, dst in ((f"{AT}/a/pids.max", f"{AT}/a"), (f"{real}/none", f"{AT}/none/x"), (f"{AT}/a", "/none/x/y")):
+            with pytest.raises(OSError) as failed:
+                getattr(os, name)(spelled(src), spelled(dst))
+            given = [os.fspath(spelled(path)) for path in (src, dst)]
+            assert names_in(failed.value)[1:3] == given
+            assert str(failed.value).endswith(f": {given[0]!r} -> {given[1]!r}")
+
+
+@pytest.mark.parametrize("name", ["rename", "link"])
+def test_the_first_of_two_paths_is_refused_first(h, real, name):
+    """It is elsewhere and missing, and the second is beside what is no group."""
+    call, found = getattr(os, name), []
+    for top in (AT, real):
+        fd = os.open(f"{top}/a/pids.max", os.O_RDONLY)
+        found.append(code(call, f"{real}/none/x", "y", dst_dir_fd=fd))
+        found.append(code(call, f"{real}/a/pids.max", "y", dst_dir_fd=fd))
+        found.append(code(call, "x", "y", src_dir_fd=999999, dst_dir_fd=fd))
+        os.close(fd)
+    assert found == ["ENOENT", "ENOTDIR", "EBADF"] * 2
+
+
+def test_an_error_names_bytes_as_bytes_and_a_descriptor_by_its_number(h, real):
+    found = []
+    for top in (AT, real):
+        fd = os.open(f"{top}/a/pids.max", os.O_RDONLY)
+        for call in (os.stat, os.listdir, os.scandir, os.mkdir, os.rmdir, os.unlink, os.chdir, open):
+            for path in (os.fsencode(f"{top}/none/x"), fd):
+                if path != fd or call in (os.listdir, os.scandir):
+                    with pytest.raises(OSError) as failed:
+                        call(path)
+                    found.append((call.__name__, failed.value.errno, failed.value.filename))
+        os.close(fd)
+    served, wanted = found[: len(found) // 2], found[len(found) // 2 :]
+    as_served = [
+        (*it[:2], it[2].replace(os.fsencode(real), AT.encode()) if isinstance(it[2], bytes) else it[2]) for it in wanted
+    ]
+    assert served == as_served
+
+
+def test_an_error_of_a_descriptor_names_nothing(h, real):
+    found = []
+    for top in (AT, real):
+        fd = os.open(f"{top}/a/pids.max", os.O_RDONLY)
+        for call, *words in (
+            (os.write, b"5"),
+            (os.pwrite, b"5", 0),
+            (os.writev, [b"5"]),
+            (os.ftruncate, 1),
+            (os.lseek, -1, 0),
+            (os.lseek, 0, 99),
+            (os.pread, 1, -1),
+            (os.fchdir,),
+        ):
+            with pytest.raises(OSError) as failed:
+                call(fd, *words)
+            found.append((call.__name__, *names_in(failed.value)[1:3], str(failed.value).endswith("'")))
+        os.close(fd)
+        with open(f"{top}/a/pids.max", "wb", buffering=0) as file, pytest.raises(OSError) as failed:
+            file.seek(-1)
+        found.append(names_in(failed.value))
+        with pytest.raises(OSError) as failed:
+            os.mkfifo(f"{top}/a/pids.max")
+        found.append(names_in(failed.value))
+    assert found[: len(found) // 2] == found[len(found) // 2 :]
+    with open(f"{AT}/a/pids.max", "wb", buffering=0) as file, pytest.raises(OSError) as failed:
+        file.write(b"x")
+    assert names_in(failed.value) == [errno.EINVAL, None, None, f"[Errno {errno.EINVAL}] Invalid argument"]
 
 
 # on a mount and elsewhere an error has the path that the caller gave, not what it is joined to

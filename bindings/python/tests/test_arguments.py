@@ -132,11 +132,10 @@ def test_a_mark_beyond_64_bits_undoes_nothing(h):
 
 
 def test_files_to_read_are_pairs(h):
-    for wrong in ("ab", b"ab"):
+    for wrong in ("ab", b"ab", ("/a",), ("/a", "pids.max", ""), (), 5, None):
         with pytest.raises(TypeError, match="not a pair"):
-            h.read_many([wrong])
-    with pytest.raises(ValueError):
-        h.read_many([("/a",)])
+            h.read_many([("/", "cgroup.procs"), wrong])
+    assert h.read_many([["/", "cgroup.procs"], iter(("/", "cgroup.stat"))])[0] == "1\n"
     with pytest.raises(TypeError):
         h.read_many(5)
 

@@ -4,8 +4,10 @@ import os
 import pathlib
 import re
 import shutil
+import signal
 import stat
 import subprocess
+import tempfile
 
 import pytest
 
@@ -103,6 +105,26 @@ def test_nothing_is_left_of_its_work(archive, tmp_path):
         assert os.listdir(rooms) == []
 
 
+@pytest.mark.parametrize("number", [signal.SIGHUP, signal.SIGINT, signal.SIGTERM])
+def test_nothing_is_left_of_the_work_of_one_that_is_ended(archive, tmp_path, number):
+    """It waits for the command that it runs, which would go on to write there."""
+    rooms, tools, began = tmp_path / "rooms", tmp_path / "tools", tmp_path / "began"
+    for folder in (rooms, tools):
+        folder.mkdir()
+    os.mkfifo(began)
+    script = f'#!/bin/sh\necho >"{began}"\nsleep 0.5\nfor last; do :; done\nmkdir -p "$last/late"\n'
+    (tools / "cp").write_text(script)
+    (tools / "cp").chmod(0o755)
+    environment = dict(os.environ, PATH=f"{tools}:{os.environ['PATH']}", TMPDIR=str(rooms))
+    words = ["env", "--default-signal", archive / "install", "--prefix", tmp_path / "p"]
+    ended = subprocess.Popen(words, env=environment, stdout=subprocess.PIPE, stderr=subprocess.PIPE)
+    with open(began, encoding="ascii") as it:
+        it.read()
+    ended.send_signal(number)
+    assert (ended.communicate(timeout=60), ended.returncode) == ((b"", b""), 128 + number)
+    assert os.listdir(rooms) == [] and not (tmp_path / "p").exists()
+
+
 def test_in_a_clone_it_takes_what_was_built(archive, tmp_path):
     (archive / "tree").rename(tmp_path / "built")
     (archive / ".ci").mkdir()
@@ -141,11 +163,62 @@ def test_a_program_that_runs_keeps_its_file(archive, tmp_path):
     assert (top / "bin" / "own").read_text() == "of somebody else"
 
 
+def test_a_link_to_a_folder_stays(archive, tmp_path):
+    top, elsewhere = tmp_path / "p", tmp_path / "elsewhere"
+    elsewhere.mkdir()
+    (elsewhere / "own").write_text("")
+    top.mkdir()
+    (top / "share").symlink_to(elsewhere)
+    assert run(archive, "install", "--prefix", str(top)) == (0, f"install: {len(ALL)} files in {top}\n", "")
+    assert os.readlink(top / "share") == str(elsewhere)
+    assert there(elsewhere) == sorted(["own", *(name[6:] for name in ALL if name.startswith("share/"))])
+    assert run(archive, "uninstall", "--prefix", str(top))[0] == 0
+    assert os.listdir(elsewhere) == ["own"] and os.listdir(top) == ["share"]
+
+
+@pytest.mark.skipif(os.geteuid() != 0, reason="only root can be another user")
+def test_somebody_who_may_write_there_installs_it(archive):
+    with tempfile.TemporaryDirectory() as room:
+        os.chmod(room, 0o755)
+        shutil.copytree(archive, f"{room}/archive", symlinks=True)
+        os.mkdir(f"{room}/p")
+        os.chmod(f"{room}/p", 0o777)
+        words = [f"{room}/archive/install", "--prefix", f"{room}/p"]
+        ran = subprocess.run(words, user=65534, group=65534, extra_groups=[], capture_output=True, text=True)
+        wanted = (0, f"install: {len(ALL)} files in {room}/p\n", "")
+        assert (ran.returncode, ran.stdout, ran.stderr) == wanted and there(f"{room}/p") == ALL
+
+
+def test_an_archive_that_was_unpacked_for_its_owner_is_installed_for_everybody(archive, tmp_path):
+    for path in (archive / "tree").rglob("*"):
+        if not path.is_symlink():
+            path.chmod(0o700 if path.is_dir() or path.name == "tool" else 0o600)
+    top = tmp_path / "p"
+    assert run(archive, "install", "--prefix", str(top))[0] == 0
+    for path in [top, *top.rglob("*")]:
+        wanted = 0o755 if path.is_dir() or path.name == "tool" else 0o644
+        assert stat.S_IMODE(path.stat().st_mode) == wanted, path
+
+
+def test_what_only_an_older_version_had_goes(archive, tmp_path):
+    top, older = tmp_path / "p", archive / "tree" / "share" / "makhloeum" / "python" / "makhloeum-0.9.0.dist-info"
+    older.mkdir()
+    (older / "METADATA").write_text("")
+    (archive / "tree" / "lib" / "liby.so.0.9.0").write_text("an older library")
+    assert run(archive, "install", "--prefix", str(top)) == (0, f"install: {len(ALL) + 2} files in {top}\n", "")
+    (top / "lib" / "own").write_text("of somebody else")
+    shutil.rmtree(older)
+    (archive / "tree" / "lib" / "liby.so.0.9.0").unlink()
+    assert run(archive, "install", "--prefix", str(top)) == (0, f"install: {len(ALL)} files in {top}\n", "")
+    assert there(top) == sorted([*ALL, "lib/own"])
+    assert os.listdir(top / "share" / "makhloeum" / "python") == ["makhloeum"], "no empty folder stays"
+
+
 def test_what_is_not_of_the_installation_stays(archive, tmp_path):
     top = tmp_path / "p"
     run(archive, "install", "--prefix", str(top))
     python = top / "share" / "makhloeum" / "python" / "makhloeum"
-    for folder in (python, python / "page"):
+    for folder in (python.parent, python, python / "page"):
         (folder / "__pycache__").mkdir()
         (folder / "__pycache__" / "x.pyc").write_text("")
     (top / "lib" / "other.so").write_text("")

@@ -83,6 +83,18 @@ def test_a_hierarchy_is_entered_once():
         h.__enter__()
 
 
+def test_an_unclosed_hierarchy_is_freed_where_the_warning_is_an_error():
+    h, at = Hierarchy(), []
+
+    def warn(*words, **more):
+        raise ResourceWarning
+
+    with pytest.raises(ResourceWarning):
+        h.__del__(warn, at.append)
+    assert at == [h._at]
+    h.close()
+
+
 def test_an_unclosed_hierarchy_gives_a_warning():
     with pytest.warns(ResourceWarning, match="unclosed"):
         h = Hierarchy()

@@ -46,6 +46,16 @@ def test_the_places_in_their_order(installed):
         assert looked_at() == [*(str(installed[at]) for at in there), NAME]
 
 
+def test_the_share_of_a_prefix_may_be_a_link(installed, tmp_path):
+    share, elsewhere = tmp_path / "prefix" / "share", tmp_path / "some" / "where" / "else"
+    elsewhere.parent.mkdir(parents=True)
+    share.rename(elsewhere)
+    share.symlink_to(elsewhere)
+    installed[2].write_text("")
+    assert looked_at() == [str(installed[2]), NAME]
+    assert all(os.path.exists(place) for place in list(_library._places())[:-1])
+
+
 def test_the_environment_names_the_only_place(installed, monkeypatch):
     for place in installed:
         place.write_text("")

@@ -222,9 +222,11 @@ def test_open_files(h):
         assert code(file.read) == "ENODEV"  # a new group is another
     with open(at("a", "pids.max"), "a") as file:
         print(7, file=file)
-    assert open(at("a", "pids.max"), "rb", buffering=0).read() == b"7\n"
+    with open(at("a", "pids.max"), "rb", buffering=0) as file:
+        assert file.read() == b"7\n"
     with pytest.raises(io.UnsupportedOperation):
-        open(at("a", "pids.max")).write("5")
+        with open(at("a", "pids.max")) as file:
+            file.write("5")
     file = open(at("a", "pids.max"), "w")
     file.write("x")
     assert code(file.close) == "EINVAL"  # as a real file, when the buffer is written
@@ -418,4 +420,5 @@ def test_it_is_closed_at_the_end():
         file = open(at("cgroup.procs"))
     with pytest.raises(ValueError):
         file.read()
+    file.close()
     assert h.closed and isinstance(h, Hierarchy)

@@ -2,24 +2,30 @@
 
 import builtins
 import contextlib
+import copy
 import ctypes
 import errno
+import gc
 import glob
+import inspect
 import io
+import multiprocessing
 import os
 import pathlib
+import pickle
 import shutil
 import stat
 import subprocess
 import sys
 import threading
 import unittest.mock
+import warnings
 from os import listdir as early_listdir
 from os import open as early_open
 
 import pytest
 
-from makhloeum import Hierarchy, _library, mounted_at
+from makhloeum import Hierarchy, _descriptors, _library, mounted_at
 from makhloeum._calls import _OF_A_NAME, _OF_TWO_NAMES, _REFUSED, _SERVED, _SYNCS, _WITHOUT_EFFECT, CALLS
 
 REAL_STAT = os.stat
@@ -207,6 +213,20 @@ def test_a_file_is_opened_just_as_a_group_is_removed(h):
     os.close(opened[0])
 
 
+def test_files_of_two_hierarchies_are_not_the_same(hierarchy, tmp_path):
+    with mounted_at(tmp_path / "one") as one, mounted_at(tmp_path / "two") as two:
+        with mounted_at(tmp_path / "again", one), mounted_at(tmp_path / "one" / "inner", hierarchy):
+            for h in (one, two):
+                h.mkdir("/a")
+            one.write("/a", "pids.max", 5)
+            for name in (".", "a", "a/pids.max"):
+                assert not os.path.samefile(tmp_path / "one" / name, tmp_path / "two" / name)
+                assert os.path.samefile(tmp_path / "one" / name, tmp_path / "again" / name)
+            assert os.path.ismount(tmp_path / "one" / "inner") and not os.path.ismount(tmp_path / "one" / "a")
+        shutil.copyfile(tmp_path / "one" / "a" / "pids.max", tmp_path / "two" / "a" / "pids.max")
+        assert two.limit("/a") == 5
+
+
 def test_one_over_another_and_below_it(hierarchy):
     hierarchy.mkdir("/lower")
     with mounted_at(AT, hierarchy), mounted_at(AT) as upper:
@@ -277,24 +297,25 @@ def test_a_patch_that_comes_again_is_called_by_each_thread():
 def test_patches_over_os_stat_in_two_blocks(tmp_path, wraps):
     """The first one is over ours when its block ends, so ours stays below; the second is over the first, or calls nobody."""
     (tmp_path / "f").write_text("real")
+    at = tmp_path / "cgroup"  # a place where the machine has nothing, not even a cgroup2
     stack = contextlib.ExitStack()
-    with mounted_at(AT):
+    with mounted_at(at):
         first = stack.enter_context(unittest.mock.patch("os.stat", wraps=os.stat))
-        assert os.stat(f"{AT}/cgroup.procs").st_size == 2 and first.call_count == 1
-    with mounted_at(AT):
-        assert os.stat(f"{AT}/cgroup.procs").st_size == 2 and os.stat(tmp_path / "f").st_size == 4
+        assert os.stat(at / "cgroup.procs").st_size == 2 and first.call_count == 1
+    with mounted_at(at):
+        assert os.stat(at / "cgroup.procs").st_size == 2 and os.stat(tmp_path / "f").st_size == 4
     more = {"wraps": os.stat} if wraps else {"return_value": "patched"}
     second = stack.enter_context(unittest.mock.patch("os.stat", **more))
     for _ in range(2):
-        with mounted_at(AT):
-            assert os.stat(f"{AT}/cgroup.procs").st_size == 2 and code(os.stat, f"{AT}/none") == "ENOENT"
+        with mounted_at(at):
+            assert os.stat(at / "cgroup.procs").st_size == 2 and code(os.stat, at / "none") == "ENOENT"
             for told in (os.stat(tmp_path / "f"), os.stat(tmp_path / "f")):
                 assert told.st_size == 4 if wraps else told == "patched"
         assert second.called and (os.stat("/") == "patched" or stat.S_ISDIR(os.stat("/").st_mode))
     stack.close()
-    assert os.stat(tmp_path / "f").st_size == 4 and code(os.stat, f"{AT}/cgroup.procs") == "ENOENT"
-    with mounted_at(AT):
-        assert os.stat(f"{AT}/cgroup.procs").st_size == 2
+    assert os.stat(tmp_path / "f").st_size == 4 and code(os.stat, at / "cgroup.procs") == "ENOENT"
+    with mounted_at(at):
+        assert os.stat(at / "cgroup.procs").st_size == 2
     assert os.stat is REAL_STAT
 
 
@@ -744,6 +765,46 @@ def test_os_tells_of_the_served_functions_what_it_tells_of_the_real_ones(h):
             assert (getattr(module, name) in names) == (was in before), name
 
 
+def test_a_served_function_is_copied_and_pickled_by_its_name(h):
+    for (module, name), real in zip(REPLACED, BEFORE):
+        served = getattr(module, name)
+        assert served is not real and served.__name__ == real.__name__ and served.__doc__ == real.__doc__, name
+        assert copy.deepcopy({name: served}) == {name: served} and pickle.loads(pickle.dumps(served)) is served, name
+    assert inspect.signature(os.stat) == inspect.signature(REAL_STAT) and shutil.rmtree.avoids_symlink_attacks
+    told = []
+    shutil.rmtree(f"{AT}/a", onerror=lambda function, path, failure: told.append(function.__name__))
+    assert set(told) == {"unlink"}
+
+
+def test_a_served_function_of_a_pool(h, tmp_path):
+    with multiprocessing.get_context("fork").Pool(1) as pool:
+        assert pool.map(os.listdir, [tmp_path, f"{AT}/a"]) == [[], os.listdir(f"{AT}/a")]
+
+
+@pytest.mark.parametrize("name", ["pids.max", "cgroup.procs", "cgroup.freeze", "cgroup.kill"])
+def test_what_is_appended_begins_at_the_end(h, name):
+    h.write("/a", "cgroup.procs", 1)
+    for pid in range(2, 40):
+        h.fork(1, pid)
+    path, value = f"{AT}/a/{name}", b"0" if name == "cgroup.freeze" else b"1"
+    size = os.stat(path).st_size
+    with open(path, "a+b" if name != "cgroup.kill" else "ab") as file:
+        assert file.tell() == size and (name == "cgroup.kill" or file.read() == b"")
+    fd = os.open(path, os.O_WRONLY | os.O_APPEND)
+    assert os.lseek(fd, 0, os.SEEK_CUR) == 0 and os.write(fd, value) == 1
+    assert os.lseek(fd, 0, os.SEEK_CUR) == size + 1
+    with pytest.raises(OSError):
+        os.write(fd, b"x")
+    assert os.lseek(fd, 0, os.SEEK_CUR) == size + 1
+    os.close(fd)
+
+
+def test_an_open_to_append_counts_once_for_faults(h):
+    h.fail("/a", error=errno.EIO, nth=2)
+    with open(f"{AT}/a/pids.max", "a+") as file:
+        assert file.tell() == 4 and code(os.read, file.fileno(), 9) == "EIO"
+
+
 def test_a_buffered_line_is_a_write(h):
     with open(f"{AT}/a/pids.max", "w", buffering=1) as file:
         file.write("5\n")
@@ -759,6 +820,67 @@ def test_a_text_is_written_with_the_words_that_are_given(h):
         file.flush()
         assert os.lseek(file.fileno(), 0, os.SEEK_CUR) == 3, "a digit, and the two bytes that end a line"
     assert h.limit("/a") == 5
+
+
+@pytest.mark.parametrize("mode, buffering", [("r", -1), ("w", -1), ("rb", -1), ("wb", 0), ("r+b", -1)])
+def test_a_file_that_nobody_closes_is_warned_of(h, tmp_path, mode, buffering):
+    (tmp_path / "f").write_text("max\n")
+    told = []
+    for path in (f"{AT}/a/pids.max", str(tmp_path / "f")):
+        with warnings.catch_warnings(record=True) as warned:
+            warnings.simplefilter("always")
+            open(path, mode, buffering)
+            gc.collect()
+            file = open(path, mode, buffering)
+            file.close()
+            del file
+            fd = os.open(path, os.O_RDWR)
+            open(fd, mode, buffering, closefd=False)
+            os.close(fd)
+            gc.collect()
+        told.append(
+            [(it.category, str(it.message).startswith("unclosed file <"), path in str(it.message)) for it in warned]
+        )
+        assert [it.filename for it in warned] == [__file__]
+    assert told[0] == told[1] == [(ResourceWarning, True, True)]
+
+
+def test_what_could_not_be_opened_is_closed_in_silence(h):
+    fd = os.open(f"{AT}/a", os.O_RDONLY)
+    with pytest.raises(IsADirectoryError):
+        open(fd)
+    os.close(fd)
+    _descriptors.Shared.__new__(_descriptors.Shared).close()  # as the interpreter does with what __init__ left
+
+
+@pytest.mark.parametrize("buffering", [-1, 0])
+def test_a_file_is_closed_where_the_warning_is_an_error(h, monkeypatch, buffering):
+    told, before = [], os.listdir("/proc/self/fd")
+    monkeypatch.setattr(sys, "unraisablehook", lambda failure: told.append(failure.exc_type))
+    with warnings.catch_warnings():
+        warnings.simplefilter("error")
+        open(f"{AT}/a/pids.max", "rb", buffering)
+        gc.collect()
+    assert told == [ResourceWarning] and os.listdir("/proc/self/fd") == before
+
+
+def test_a_buffer_has_the_size_that_is_given(h):
+    with open(f"{AT}/a/pids.max", "wb", buffering=2) as file:
+        file.write(b"1")
+        file.write(b"23")
+        assert h.limit("/a") in (1, 23)  # by the Python
+    assert h.limit("/a") == 23
+    with open(f"{AT}/a/pids.max", "rb", buffering=1 << 20) as file:
+        assert file.read1() == b"23\n"
+    for wrong, kind in (("x", TypeError), (1.0, TypeError), (1 << 70, OverflowError)):
+        for mode in ("r", "wb"):
+            with pytest.raises(kind):
+                open(f"{AT}/a/pids.max", mode, wrong)
+
+
+def test_a_text_has_the_encoding_of_a_real_file(h, tmp_path):
+    with open(tmp_path / "f", "w") as real, open(f"{AT}/a/pids.max", "w") as file:
+        assert (file.encoding, file.errors, repr(file.newlines)) == (real.encoding, real.errors, repr(real.newlines))
 
 
 def test_a_hierarchy_is_mounted_only_once_it_is_one():

@@ -209,3 +209,27 @@ def test_entries_of_a_listing_are_as_those_of_a_real_one(h, tmp_path):
     assert first.name == os.listdir(f"{AT}/a")[0] and list(scan) == []
     if sys.version_info >= (3, 12):
         assert not first.is_junction()
+
+
+def test_an_entry_keeps_what_it_knows(h, tmp_path):
+    os.mkdir(f"{AT}/a/b")
+    (tmp_path / "b").mkdir()
+    (tmp_path / "pids.max").write_text("")
+    for folder in (f"{AT}/a", str(tmp_path)):
+        with os.scandir(folder) as listed:
+            entries = {entry.name: entry for entry in listed}
+        group, file, number = entries["b"], entries["pids.max"], os.stat(f"{folder}/pids.max").st_ino
+        before = group.stat()
+        os.rmdir(f"{folder}/b")
+        os.rmdir(folder) if folder != str(tmp_path) else os.unlink(file)
+        assert group.stat() == before and group.inode() == before.st_ino and file.inode() == number
+        assert group.is_dir() and file.is_file()
+        with pytest.raises(FileNotFoundError):
+            file.stat()
+
+
+def test_owners_and_times_are_those_of_the_engine(h):
+    before = os.stat(f"{AT}/a")
+    os.chown(f"{AT}/a", 1, 1)
+    os.utime(f"{AT}/a", (1, 2))
+    assert os.stat(f"{AT}/a") == before

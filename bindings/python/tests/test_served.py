@@ -176,6 +176,44 @@ def test_no_file_of_a_removed_group_becomes_one_of_its_successor(h):
     os.close(fd)
 
 
+def test_the_link_of_a_descriptor_leads_to_the_open_file(h):
+    fds = [os.open(f"{AT}/a/pids.max", os.O_RDWR), os.open(f"{AT}/a", os.O_RDONLY)]
+    file, group = (f"/proc/self/fd/{fd}" for fd in fds)
+    for number, mode in enumerate(("w", "a", "r+"), 5):
+        with open(file, mode) as other:
+            other.write(str(number))
+        assert h.limit("/a") == number
+    os.rmdir(f"{AT}/a")
+    for _ in "removed", "made again":
+        assert os.stat(file).st_size == 0 and os.stat(group).st_nlink == 2 and os.listdir(group) == []
+        for flags in (os.O_RDONLY, os.O_WRONLY, os.O_RDWR | os.O_CREAT):
+            assert code(os.open, file, flags) == "ENODEV"
+        assert code(open, group, "w") == "EISDIR" and code(os.listdir, file) == "ENOTDIR"
+        os.close(os.open(group, os.O_RDONLY))
+        os.makedirs(f"{AT}/a", exist_ok=True)
+    for fd in fds:
+        os.close(fd)
+
+
+def test_a_user_truncates_what_he_may_write(h, monkeypatch):
+    monkeypatch.setattr(os, "geteuid", lambda: 1000)
+    assert os.truncate(f"{AT}/a/pids.max", 0) is os.truncate(f"{AT}/a/cgroup.kill", 0) is None
+    for name in ("pids.current", "cgroup.events", "cgroup.threads", "cpu.stat"):
+        assert code(os.truncate, f"{AT}/a/{name}", 0) == "EACCES", name
+    assert code(os.truncate, f"{AT}/a", 0) == "EISDIR" and code(os.truncate, f"{AT}/b/cpu.stat", 0) == "ENOENT"
+
+
+def test_the_working_directory_may_be_gone(h, tmp_path, monkeypatch):
+    (tmp_path / "gone").mkdir()
+    monkeypatch.chdir(tmp_path / "gone")
+    os.rmdir(tmp_path / "gone")
+    assert os.stat(".").st_nlink == 0 and os.listdir() == os.listdir(".") == [] and os.path.exists(".")
+    for call in (open, os.stat, os.mkdir):
+        with pytest.raises(FileNotFoundError, match="'x'"):
+            call("x")
+    assert os.path.isdir(f"{AT}/a")
+
+
 def test_a_file_opens_with_o_excl_alone(h):
     os.close(os.open(f"{AT}/cgroup.procs", os.O_RDONLY | os.O_EXCL))
 

@@ -243,6 +243,17 @@ def test_a_script_that_reads_itself(tmp_path):
     assert ran.stdout == f"[Errno {errno.ELOOP}] the script reads itself: {str(script)!r}\n0::/\n"
 
 
+def test_what_the_locale_lacks_is_escaped(tmp_path):
+    """In the C locale bytes that are no text are written as they came."""
+    script = tmp_path / "script"
+    script.write_bytes("mkdir /é\n".encode() + b"mkdir /\xff\nmkdir /\xc3\xa9\xff\n")
+    words = dict(WORDS, LC_ALL="C", PYTHONUTF8="0", PYTHONCOERCECLOCALE="0")
+    ran = subprocess.run([sys.executable, "-m", "makhloeum", str(script)], capture_output=True, env=words, timeout=600)
+    refused = b": Invalid argument (path)\n"
+    names = (rb"mkdir /\xe9", b"mkdir /\xff", rb"mkdir /\xe9\udcff")
+    assert (ran.returncode, ran.stdout, ran.stderr) == (1, b"".join(name + refused for name in names), b"")
+
+
 def test_a_script_that_was_interrupted_can_be_read_again(hierarchy, tmp_path, monkeypatch):
     (tmp_path / "script").write_text("mkdir /a\nmkdir /b\n")
     out = io.StringIO()
