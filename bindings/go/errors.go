@@ -182,6 +182,18 @@ func failure(what command, status uint32, code Code, answer []byte) error {
 	return fmt.Errorf("%s: unexpected status %d of the library", what.text, status)
 }
 
+// takePath takes the path from the line of a command, which has its words.
+func (r *Refused) takePath(line string) {
+	words := strings.FieldsFunc(line, func(it rune) bool { return it == ' ' || it == '\t' || it == '\r' })
+	switch words[0] {
+	case "mkdir", "rmdir", "write", "cat":
+		r.Path = words[1]
+	}
+	if r.Code == BadPath {
+		r.PathFault, r.Position = pathFault(r.Path)
+	}
+}
+
 func refusal(what command, code Code, answer []byte) error {
 	r := &Refused{Code: code, Command: what.text, Path: what.path}
 	if words := strings.SplitN(string(answer), " ", 3); len(words) == 3 {

@@ -14,6 +14,9 @@ import (
 // bits is syscall.EINVAL. While there are faults, each call with a path takes time for each of them.
 func (h *Hierarchy) Fail(path string, nth uint64, errno syscall.Errno) error {
 	if errno > math.MaxInt32 {
+		if err := h.closed("fail " + path); err != nil {
+			return err
+		}
 		return fmt.Errorf("fail %s: %d is not an errno: %w", path, uint64(errno), syscall.EINVAL)
 	}
 	return h.callWithPath("fail", path, func(text *C.char, info *C.mk_info) C.uint32_t {

@@ -69,9 +69,8 @@ func (f FS) find(operation, name string) (*node, error) {
 // node makes one call that names the group, so that Fail and Vanish count operations.
 func (f FS) node(name string) (*node, error) {
 	group, base := groupOf(path.Dir(name)), path.Base(name)
-	it, isFile := fileNamed(base, group)
-	if isFile {
-		text, err := f.h.get(group, base)
+	if it, ok := fileNamed(base, group); ok && it.readable {
+		text, err := f.h.get(group, it)
 		return &node{name: base, mode: it.mode(), text: text}, notFound(err)
 	}
 	there, err := f.h.HasGroup(groupOf(name))
@@ -144,7 +143,7 @@ func (f FS) ReadDir(name string) ([]fs.DirEntry, error) {
 		entries = append(entries, entry{f, child, path.Join(name, child), fs.ModeDir | 0o755})
 	}
 	for _, it := range files {
-		if it.onRoot || group != "/" {
+		if it.readable && (it.onRoot || group != "/") {
 			entries = append(entries, entry{f, it.name, path.Join(name, it.name), it.mode()})
 		}
 	}
@@ -211,19 +210,47 @@ func (o *openGroup) ReadDir(n int) ([]fs.DirEntry, error) {
 // constant accepts its current value, cgroup.freeze freezes, and 0 in cgroup.procs is this process. The error is the errno of a mount, such as
 // syscall.ENOENT, EINVAL, ERANGE or ESRCH. A kill takes time for each process that it ends.
 func (f FS) WriteFile(name string, data []byte) error {
-	if !fs.ValidPath(name) || name == "." {
+	if !fs.ValidPath(name) {
 		return &fs.PathError{Op: "open", Path: name, Err: fs.ErrInvalid}
 	}
-	if err := f.h.put(groupOf(path.Dir(name)), path.Base(name), data, f.self); err != nil {
+	if err := f.write(name, data); err != nil {
 		return &fs.PathError{Op: "write", Path: name, Err: err}
 	}
 	return nil
 }
 
-// isFile says whether the name is that of a file in some group.
+// write makes one call that names the group.
+func (f FS) write(name string, data []byte) error {
+	group, base := groupOf(path.Dir(name)), path.Base(name)
+	err := error(syscall.EISDIR)
+	if it, ok := fileNamed(base, group); ok {
+		err = f.h.put(group, it, data, f.self)
+	} else if _, missing := f.node(name); missing != nil {
+		err = missing
+	}
+	if err == syscall.ENOENT && f.isBelowFile(name) {
+		return syscall.ENOTDIR
+	}
+	return err
+}
+
+// isBelowFile says whether a part of the name before its last one is a file that is there.
+func (f FS) isBelowFile(name string) bool {
+	for above := path.Dir(name); above != "."; above = path.Dir(above) {
+		group := groupOf(path.Dir(above))
+		if _, ok := fileNamed(path.Base(above), group); ok {
+			if there, err := f.h.HasGroup(group); err == nil && there {
+				return true
+			}
+		}
+	}
+	return false
+}
+
+// isFile says whether the name is that of a file in some group that can be read.
 func isFile(name string) bool {
-	_, ok := fileNamed(path.Base(name), groupOf(path.Dir(name)))
-	return ok
+	it, ok := fileNamed(path.Base(name), groupOf(path.Dir(name)))
+	return ok && it.readable
 }
 
 // Mkdir makes the group of that name, as os.Mkdir does. The error is that of Hierarchy.Mkdir, or an errno of a mount for a name that
@@ -264,8 +291,14 @@ func (f FS) asMount(operation, name string, err error) error {
 	if operation != "mkdir" {
 		return notFound(err)
 	}
+	if f.isBelowFile(name) {
+		return syscall.ENOTDIR
+	}
 	if _, err := f.node(path.Dir(name)); err != nil {
 		return err
+	}
+	if _, isFile := fileNamed(path.Base(name), groupOf(path.Dir(name))); isFile {
+		return syscall.EEXIST
 	}
 	return refused.PathFault.mkdirErrno()
 }

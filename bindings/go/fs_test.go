@@ -98,6 +98,11 @@ func TestWritesAreThoseOfAMount(t *testing.T) {
 		{f.Mkdir(deep[1:] + "/d"), syscall.EAGAIN}, {f.Mkdir("e/" + deep[1:]), syscall.ENOENT}, {f.Mkdir("a/pids.max"), syscall.EEXIST}, {f.Remove("a/pids.max"), syscall.EPERM},
 		{f.Remove("a b"), syscall.ENOENT}, {f.Remove("."), syscall.EBUSY}, {f.WriteFile("a/x\x00y", nil), syscall.ENOENT},
 		{f.WriteFile("a/pids.max\x00y", []byte("7")), syscall.ENOENT}, {f.Remove("x/pids.max"), syscall.ENOENT}, {f.Mkdir("x/pids.max"), syscall.ENOENT},
+		{f.WriteFile("a", []byte("1")), syscall.EISDIR}, {f.WriteFile(".", nil), syscall.EISDIR}, {f.WriteFile("x", []byte("1")), syscall.ENOENT},
+		{f.Mkdir("cgroup.procs/x"), syscall.ENOTDIR}, {f.Mkdir("a/pids.max/x"), syscall.ENOTDIR}, {f.Mkdir("x/pids.max/y"), syscall.ENOENT},
+		{f.Mkdir("a/pids.max/x/y"), syscall.ENOTDIR}, {f.WriteFile("cgroup.procs/x", nil), syscall.ENOTDIR}, {f.WriteFile("a/cgroup.kill/x", nil), syscall.ENOTDIR},
+		{f.WriteFile("a/pids.max/pids.max/x", nil), syscall.ENOTDIR}, {f.WriteFile("a/pids.max/pids.max", nil), syscall.ENOTDIR}, {f.WriteFile("x/pids.max/y", nil), syscall.ENOENT},
+		{f.Mkdir("a/cgroup.kill"), syscall.EEXIST}, {f.Mkdir("cgroup.kill"), syscall.EINVAL}, {f.Mkdir("x/cgroup.kill"), syscall.ENOENT},
 	} {
 		if !errors.Is(row.err, row.want) {
 			t.Errorf("%v; not %v", row.err, row.want)

@@ -151,14 +151,21 @@ func (h *Hierarchy) asked(c *call, what command, do func() C.uint32_t) (string, 
 // the line is not a command or has more than 8,192 bytes. It takes time for each byte of the line, and for what the command does.
 func (h *Hierarchy) Line(line string) (string, error) {
 	if strings.Contains(line, "\n") {
+		if err := h.closed(line); err != nil {
+			return "", err
+		}
 		return "", &Refused{Code: BadSyntax, Reply: "syntax", Command: line}
 	}
 	c := newCall()
 	defer c.end()
 	text := []byte(line)
-	return h.asked(c, command{text: line}, func() C.uint32_t {
+	answer, err := h.asked(c, command{text: line}, func() C.uint32_t {
 		return C.mk_line(&h.handle, 1, at(text), C.size_t(len(text)), at(c.out), C.size_t(len(c.out)), &c.info)
 	})
+	if refused, ok := err.(*Refused); ok && refused.Code != BadSyntax {
+		refused.takePath(line)
+	}
+	return answer, err
 }
 
 // words returns the text that a command of words shows.
@@ -256,6 +263,12 @@ func errorOf(call string, status C.uint32_t) error {
 		return nil
 	}
 	return failure(command{text: call}, uint32(status), 0, nil)
+}
+
+// closed is the error of a call that does not reach the library.
+func (h *Hierarchy) closed(call string) error {
+	var changes C.uint64_t
+	return errorOf(call, C.mk_changes(&h.handle, &changes))
 }
 
 // Depth returns how many recorded commands can be undone. The error is ErrClosed or ErrBusy.

@@ -235,7 +235,7 @@ func TestACallUsesTheMemoryOfAnother(t *testing.T) {
 		"Read":     func() error { _, err := h.Read("/a", "pids.max"); return err },
 		"Children": func() error { _, err := h.Children("/a"); return err },
 		"HasGroup": func() error { _, err := h.HasGroup("/a"); return err },
-		"get":      func() error { _, err := h.get("/a", "pids.max"); return err },
+		"ReadFile": func() error { _, err := h.FS().ReadFile("a/pids.max"); return err },
 		"Undo": func() error {
 			if err := h.Mkdir("/b"); err != nil {
 				return err

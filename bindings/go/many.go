@@ -22,7 +22,7 @@ type Text struct {
 // ErrBusy or syscall.ENOMEM. It takes time for each file and each byte of the texts.
 func (h *Hierarchy) ReadMany(files []File) ([]Text, error) {
 	if len(files) == 0 {
-		return nil, nil
+		return nil, h.closed("read many")
 	}
 	var names strings.Builder
 	for _, it := range files {

@@ -99,6 +99,9 @@ func (h *Hierarchy) Processes(path string) ([]int, error) {
 func (h *Hierarchy) UndoTo(mark int) error {
 	what := command{text: fmt.Sprint("undo to ", mark)}
 	if mark < 0 {
+		if err := h.closed(what.text); err != nil {
+			return err
+		}
 		return fmt.Errorf("%s: a mark is not negative: %w", what.text, syscall.EINVAL)
 	}
 	var info C.mk_info

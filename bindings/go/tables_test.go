@@ -52,9 +52,16 @@ func TestAClosedHierarchyNamesTheMethod(t *testing.T) {
 		"fail /a":            h.Fail("/a", 1, syscall.EIO),
 		"vanish /a":          h.Vanish("/a", 1),
 		"clear faults":       only(h.ClearFaults()),
+		// arguments that are refused by an open one
+		"a\nb":       only(h.Line("a\nb")),
+		"undo to -1": h.UndoTo(-1),
+		"fail /b":    h.Fail("/b", 1, 1<<31),
 	}
 	for name, call := range numbersOfAGroup {
 		closed[name+" /a"] = call(h, "/a")
+	}
+	if _, err := h.ReadMany(nil); !errors.Is(err, ErrClosed) {
+		t.Error("no files", err)
 	}
 	for name, err := range closed {
 		if !errors.Is(err, ErrClosed) || err.Error() != name+": the hierarchy is closed" {
@@ -72,6 +79,7 @@ func TestAClosedHierarchyNamesTheMethod(t *testing.T) {
 // A refusal has the path of its command, and what is wrong with it.
 func TestFieldsOfARefusal(t *testing.T) {
 	h := open(t)
+	line := func(text string) error { _, err := h.Line(text); return err }
 	type row struct {
 		err  error
 		want Refused
@@ -84,8 +92,14 @@ func TestFieldsOfARefusal(t *testing.T) {
 		{h.Fail("x", 1, 1), Refused{Code: BadPath, Reply: "path: a path begins with a slash, at 0", Command: "fail x", Path: "x", PathFault: NotRooted}},
 		{h.Exit(5), Refused{Code: NoProcess, Reply: "noprocess 5", Command: "exit 5"}},
 		{h.UndoTo(4), Refused{Code: NothingToUndo, Reply: "nothing", Command: "undo to 4"}},
-		{func() error { _, err := h.Line("mkdir x/"); return err }(), Refused{Code: BadPath, Reply: "path", Command: "mkdir x/"}},
-		{func() error { _, err := h.Line("a\nb"); return err }(), Refused{Code: BadSyntax, Reply: "syntax", Command: "a\nb"}},
+		{line("mkdir x/"), Refused{Code: BadPath, Reply: "path", Command: "mkdir x/", Path: "x/", PathFault: NotRooted}},
+		{line(" cat\t/a/ x"), Refused{Code: BadPath, Reply: "path", Command: " cat\t/a/ x", Path: "/a/", PathFault: EmptyName, Position: 3}},
+		{line("rmdir\r/x"), Refused{Code: NoGroup, Reply: "nogroup /x", Command: "rmdir\r/x", Path: "/x"}},
+		{line("write / pids.max 1"), Refused{Code: NoFile, Reply: "nofile", Command: "write / pids.max 1", Path: "/"}},
+		{line("where 5"), Refused{Code: NoProcess, Reply: "noprocess 5", Command: "where 5"}},
+		{line("undo"), Refused{Code: NothingToUndo, Reply: "nothing", Command: "undo"}},
+		{line("mkdir /x /y"), Refused{Code: BadSyntax, Reply: "syntax", Command: "mkdir /x /y"}},
+		{line("a\nb"), Refused{Code: BadSyntax, Reply: "syntax", Command: "a\nb"}},
 		{func() error { _, err := h.Children("/y"); return err }(), Refused{Code: NoGroup, Reply: "nogroup /y", Command: "children /y", Path: "/y"}},
 	}
 	for name, call := range numbersOfAGroup {
@@ -149,7 +163,7 @@ func TestErrorsOfTheFileSystemNameOperationAndFile(t *testing.T) {
 		"remove b/pids.max: read /b pids.max: no such file or directory (nogroup /b)": f.Remove("b/pids.max"),
 		"remove a/: invalid argument":                                                 f.Remove("a/"),
 		"write a/pids.max: invalid argument":                                          f.WriteFile("a/pids.max", []byte("x")),
-		"open .: invalid argument":                                                    f.WriteFile(".", nil),
+		"write .: is a directory":                                                     f.WriteFile(".", nil),
 		"open /a/pids.max: invalid argument":                                          f.WriteFile("/a/pids.max", nil),
 		"write a/none: no such file or directory":                                     f.WriteFile("a/none", nil),
 		"mkdir a: mkdir /a: file exists (exists)":                                     f.Mkdir("a"),
