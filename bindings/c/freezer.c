@@ -62,15 +62,27 @@ uint32_t freezer_set(struct slot *slot, const char *group, bool freezes)
 void freezer_look(struct slot *slot)
 {
 	mk0_info told;
-	for (struct frozen **at = &slot->frozen; *at != NULL;)
-		if (mk0_has_group(&slot->engine, (const uint8_t *)(*at)->group, (*at)->len, &told) == MK_REFUSED)
+	slot->must_look = false;
+	for (struct frozen **at = &slot->frozen; *at != NULL;) {
+		uint32_t status = mk0_has_group(&slot->engine, (const uint8_t *)(*at)->group, (*at)->len, &told);
+		slot->must_look |= status == MK_OUT_OF_MEMORY;
+		if (status == MK_REFUSED)
 			drop(at);
 		else
 			at = &(*at)->next;
+	}
+}
+
+uint32_t freezer_catch_up(struct slot *slot)
+{
+	if (slot->must_look)
+		freezer_look(slot);
+	return slot->must_look ? MK_OUT_OF_MEMORY : MK_DONE;
 }
 
 void freezer_drop(struct slot *slot)
 {
 	while (slot->frozen != NULL)
 		drop(&slot->frozen);
+	slot->must_look = false;
 }

@@ -141,6 +141,8 @@ uint32_t answer_line(mk0_handle *engine, uint64_t number, const uint8_t *line, s
 {
 	uint32_t status = faults_before_line(engine, line, len, told);
 	if (status == MK_DONE)
+		status = freezer_catch_up(slot_of(engine));
+	if (status == MK_DONE)
 		status = mk0_line(engine, number, line, len, (uint8_t *)out.at, out.size, told);
 	if (status == MK_TOO_SMALL)
 		faults_again_at_line(engine, line, len);

@@ -22,7 +22,7 @@ static struct slot *slots;
 static struct slot *free_slots;
 static uint64_t last_serial;
 
-static bool forks_are_watched;
+static bool watch_forks(void);
 
 /* One for each thread. A handler may look at any moment, so no access may move across a lock: see begin and end. */
 static __thread volatile sig_atomic_t inside __attribute__((tls_model("initial-exec")));
@@ -43,18 +43,26 @@ static void end(void)
 /* In the serial number of a handle: its calls don't wait for those of other threads. */
 #define NONBLOCKING (UINT64_C(1) << 63)
 
-/* MK_DONE with the slot of an open handle and its lock; MK_CLOSED, or MK_WOULD_BLOCK. */
+/* Whether the slot has the engine of the handle. Without the lock it may be closed at any time; a closed one never comes back. */
+static bool has_engine_of(const struct slot *slot, const mk_handle *h)
+{
+	uint64_t serial = __atomic_load_n(&slot->serial, __ATOMIC_RELAXED);
+	return serial == (__atomic_load_n(&h->serial, __ATOMIC_RELAXED) & ~NONBLOCKING);
+}
+
+/* MK_DONE with the slot of an open handle and its lock; MK_CLOSED, or MK_WOULD_BLOCK. It waits for no call on the engine that has the
+   slot of a closed one. */
 static uint32_t lock_open(const mk_handle *h, struct slot **locked)
 {
 	struct slot *slot = __atomic_load_n(&h->slot, __ATOMIC_ACQUIRE);
-	if (slot == NULL)
+	if (slot == NULL || !has_engine_of(slot, h))
 		return MK_CLOSED;
 	if ((__atomic_load_n(&h->serial, __ATOMIC_RELAXED) & NONBLOCKING) == 0)
 		pthread_mutex_lock(&slot->lock);
 	else if (pthread_mutex_trylock(&slot->lock) != 0)
 		return MK_WOULD_BLOCK;
 	*locked = slot;
-	if (slot->serial == (__atomic_load_n(&h->serial, __ATOMIC_RELAXED) & ~NONBLOCKING))
+	if (has_engine_of(slot, h))
 		return MK_DONE;
 	pthread_mutex_unlock(&slot->lock);
 	return MK_CLOSED;
@@ -186,7 +194,7 @@ static uint32_t copy_engine(const mk_handle *from, mk0_handle *to)
    slots are never held together, and threads that copy in opposite directions can't wait for each other. */
 static uint32_t fill(mk_handle *h, const mk_handle *from)
 {
-	struct slot *slot = forks_are_watched ? take_slot() : NULL;
+	struct slot *slot = watch_forks() ? take_slot() : NULL;
 	if (slot == NULL)
 		return MK_OUT_OF_MEMORY;
 	uint32_t status = from == NULL ? mk0_open(&slot->engine) : copy_engine(from, &slot->engine);
@@ -196,7 +204,7 @@ static uint32_t fill(mk_handle *h, const mk_handle *from)
 	}
 	uint64_t serial = ++last_serial;
 	pthread_mutex_lock(&slot->lock);
-	slot->serial = serial;
+	__atomic_store_n(&slot->serial, serial, __ATOMIC_RELAXED);
 	slot->changes = 0;
 	mk0_depth(&slot->engine, &slot->depth);
 	pthread_mutex_unlock(&slot->lock);
@@ -243,7 +251,7 @@ PUBLIC uint32_t mk_close(mk_handle *h)
 		return status;
 	struct slot *slot = slot_of(engine);
 	status = mk0_close(engine);
-	slot->serial = 0;
+	__atomic_store_n(&slot->serial, UINT64_C(0), __ATOMIC_RELAXED);
 	faults_drop(slot);
 	freezer_drop(slot);
 	pthread_cond_broadcast(&slot->changed);
@@ -295,9 +303,22 @@ static void after_fork_in_child(void)
 	unlock_all(true);
 }
 
-__attribute__((constructor)) static void watch_forks(void)
+/* with the registry locked: whether the handlers are there, now if not before */
+static bool watch_forks(void)
 {
-	forks_are_watched = pthread_atfork(before_fork, after_fork, after_fork_in_child) == 0;
+	static bool watched;
+	if (!watched)
+		watched = pthread_atfork(before_fork, after_fork, after_fork_in_child) == 0;
+	return watched;
+}
+
+/* Before the handlers of others, if possible: then these may make calls. Constructors of the program may run before this one, and open a
+   hierarchy. */
+__attribute__((constructor)) static void watch_forks_early(void)
+{
+	pthread_mutex_lock(&registry);
+	watch_forks();
+	pthread_mutex_unlock(&registry);
 }
 
 /* ---- calls */
@@ -321,7 +342,9 @@ PUBLIC uint32_t mk_undo(mk_handle *h, uint64_t number, uint8_t *out, size_t out_
 	mk0_info told = { 0 };
 	uint32_t status = enter(h, &engine);
 	if (status == MK_DONE) {
-		status = mk0_undo(engine, number, out, out_size, &told);
+		status = freezer_catch_up(slot_of(engine));
+		if (status == MK_DONE)
+			status = mk0_undo(engine, number, out, out_size, &told);
 		leave(engine);
 	}
 	return tell(info, status, &told);

@@ -18,7 +18,8 @@
  *   handler that interrupted a call must not fork.
  * - Memory comes from malloc. If there is none, the call returns MK_OUT_OF_MEMORY, and nothing has changed but perhaps
  *   bytes of the caller's buffer. There are two exceptions: mk_undo_to may have undone some commands, and of a group that
- *   mk_vanish removes some may be missing. The memory of a lock, some 100 bytes, is kept for the next mk_open or mk_copy.
+ *   mk_vanish removes some may be missing. The memory of a lock, some 200 bytes, is kept for the next mk_open or mk_copy.
+ * - A thread that makes calls needs 128 KiB of stack.
  * - No pointer is null, even if its length is 0. The line, the path, the buffer, the handle and the info of one call do not
  *   overlap.
  * - Link with libmakhloeum.a or libmakhloeum.so (bindings/build makes both), and with -pthread.
@@ -310,7 +311,8 @@ uint32_t mk_wait_file(mk_handle *h, const char *path, const char *file, const ch
 /* ---- faults, for tests of programs that use a hierarchy.
 
    Calls that name a path are mk_line with a path, mk_children, mk_subtree, mk_has_group, mk_read_many for each of its files,
-   mk_words with a path, and every call here with a path but mk_fail, mk_vanish, mk_wait_file and mk_path_fault. A call that returns MK_TOO_SMALL does not count.
+   mk_words with a path, and every call here with a path but mk_fail, mk_vanish, mk_wait_file and mk_path_fault. A call that returns
+   MK_TOO_SMALL does not count; but a group that vanished before such a mk_line or mk_words is gone.
    If several faults are due at one call, the newest occurs, and the others are dropped. */
 
 /* The nth call from now on that names the path fails: it returns MK_FAILED with that errno. nth is 1 for the next. MK_DONE;
@@ -342,15 +344,16 @@ const mk_file *mk_file_at(size_t i);
 uint32_t mk_get(mk_handle *h, const char *path, const char *file, char *text, size_t size, mk_info *info);
 
 /* Writes a file as a write to a mount's does (docs/LIMITS.md, "Files"): numbers may be octal, hexadecimal or signed, a
-   constant accepts its current value, and a pid of 0 is self. Statuses as for mk_write; info->error is the mount's errno.
-   For MK_VALUE it can be ERANGE, ESRCH, E2BIG or EOPNOTSUPP, as in the kernel or the mount; for MK_PATH it is ENOENT, since
+   constant accepts its current value, a pid of 0 is self, and an empty write changes nothing. Statuses as for mk_write;
+   info->error is the mount's errno. For MK_VALUE it can be ERANGE, ESRCH, E2BIG or EOPNOTSUPP, as in the kernel or the mount; for MK_PATH it is ENOENT, since
    a mount has no such group, or ENAMETOOLONG for a path that is too long. A group or a file that isn't there,
    as pids.max of the root, comes before a fault of the value. 1 and 0 in cgroup.freeze change what mk_get shows, and nothing
    else: they aren't recorded, and a group that is removed and made again isn't frozen. */
 uint32_t mk_put(mk_handle *h, const char *path, const char *file, const char *data, size_t size, int64_t self,
 	mk_info *info);
 
-/* The errno that a mkdir in a mount gives for a name with this fault of mk_path_fault; 0 for 0. */
+/* The errno that a mkdir in a mount gives for a name with this fault of mk_path_fault; 0 for 0. But `.`, `..` and the files of the
+   group are there already: a mkdir of them gives EEXIST. */
 int mk_path_errno(uint32_t fault);
 
 /* The first fault of a text that is not a path, and where it is: 0 if it is a path. *position is the place, from 0, of the

@@ -183,6 +183,8 @@ static uint32_t put(mk0_handle *engine, const char *path, const char *name, cons
 		*told = (mk0_info){ .code = MK_NO_FILE };
 		return MK_REFUSED;
 	}
+	if (write->size == 0)
+		return MK_DONE; /* it changes nothing: the kernel doesn't tell a mount of it */
 	int fault = value_of(file, write, said);
 	if (fault != 0) {
 		*error = fault;

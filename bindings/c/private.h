@@ -28,6 +28,7 @@ struct slot {
 	size_t depth; /* at the newest change */
 	struct fault *faults;
 	struct frozen *frozen; /* freezer.c */
+	bool must_look; /* freezer.c: a removed group may still be among them */
 	struct slot *next;
 	struct slot *next_free;
 };
@@ -66,6 +67,9 @@ uint32_t freezer_set(struct slot *slot, const char *group, bool freezes);
 
 /* A group may have been removed: one that is made in its place doesn't freeze. */
 void freezer_look(struct slot *slot);
+
+/* Repeats a look that had no memory, before a group can be made: MK_DONE or MK_OUT_OF_MEMORY. */
+uint32_t freezer_catch_up(struct slot *slot);
 void freezer_drop(struct slot *slot);
 
 #endif

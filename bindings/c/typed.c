@@ -215,7 +215,9 @@ PUBLIC uint32_t mk_undo_to(mk_handle *h, size_t mark, mk_info *info)
 		status = MK_REFUSED;
 	}
 	for (; status == MK_DONE && depth > mark; depth--) {
-		status = mk0_undo(engine, 0, (uint8_t *)out, sizeof out, &told);
+		status = freezer_catch_up(slot_of(engine));
+		if (status == MK_DONE)
+			status = mk0_undo(engine, 0, (uint8_t *)out, sizeof out, &told);
 		undone += status == MK_DONE;
 		freezer_look(slot_of(engine));
 	}

@@ -7,7 +7,7 @@
 #include <string.h>
 #include <unistd.h>
 
-enum { TICK_MILLISECONDS = 10, LINE_BYTES = 8192, ANSWER_BYTES = 65536 };
+enum { TICK_MILLISECONDS = 10, LINE_BYTES = 8192 + 1, ANSWER_BYTES = 65536 }; /* a line has a line feed too */
 
 struct service {
 	mk_handle hierarchy;

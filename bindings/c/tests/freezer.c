@@ -43,7 +43,8 @@ static int freezes(void)
 	CHECK(strcmp(text, "populated 1\nfrozen 0\n") == 0);
 	CHECK(put("/a/b", "0x1") == 0 && put("/a", "1") == 0 && put("/a", "0") == 0);
 	CHECK(!is_frozen(&h, "/a") && is_frozen(&h, "/a/b") && put("/a/b", "0") == 0 && !is_frozen(&h, "/a/b"));
-	CHECK(put("/a", "2") == ERANGE && put("/a", "-1") == ERANGE && put("/a", "x") == EINVAL && put("/a", "") == EINVAL);
+	CHECK(
+		put("/a", "2") == ERANGE && put("/a", "-1") == ERANGE && put("/a", "x") == EINVAL && put("/a", "\n") == EINVAL);
 	CHECK(put("/", "1") == ENOENT && put("/none", "1") == ENOENT && !is_frozen(&h, "/a"));
 	return 0;
 }

@@ -1,7 +1,8 @@
 /* Calls that need no memory ask for none: each allocation is counted, also one whose refusal a call would ignore. A line whose
-   command needs none asks for the memory of its answer's text alone. Link with -Wl,--wrap=malloc,--wrap=calloc,--wrap=realloc. Exits
-   with the number of the first check that fails, or 0, and prints how many held. */
+   command needs none asks for the memory of its answer's text alone. And a thread needs no more stack than makhloeum.h says. Link with
+   -Wl,--wrap=malloc,--wrap=calloc,--wrap=realloc. Exits with the number of the first check that fails, or 0, and prints how many held. */
 #include "check.h"
+#include <pthread.h>
 
 void *__real_malloc(size_t size);
 void *__real_calloc(size_t count, size_t size);
@@ -88,6 +89,69 @@ static int undos(void)
 	return 0;
 }
 
+/* ---- a thread with little stack: what goes deepest are groups that vanish with all levels below them */
+
+enum { LEVELS = 32, NAME = 127, STACK = 128 * 1024 }; /* a name with its slash */
+static char path[LEVELS * NAME + 1], text[64];
+static mk_text texts[1];
+static mk_handle other;
+
+#define CALL(name, call)       \
+	static uint32_t name(void) \
+	{                          \
+		return call;           \
+	}
+CALL(get, mk_get(&h, path, "cgroup.type", text, sizeof text, &info))
+CALL(put, mk_put(&h, path, "pids.max", "5", 1, 1, &info))
+CALL(make, mk_mkdir(&h, path, &info))
+CALL(many, mk_read_many(&h, path, 1, texts, text, sizeof text, &info))
+CALL(undo_all, mk_undo_to(&h, 0, &info))
+CALL(copy, mk_copy(&h, &other))
+static const struct {
+	uint32_t (*make)(void);
+	uint32_t status;
+} deep_calls[] = { { get, MK_REFUSED }, { put, MK_REFUSED }, { make, MK_DONE }, { many, MK_DONE },
+	{ undo_all, MK_DONE }, { copy, MK_DONE } };
+
+/* A group with all levels below it, which vanishes at the next call that names its path. */
+static bool is_deep(void)
+{
+	memset(path, 'x', sizeof path - 1);
+	for (size_t level = 1; level <= LEVELS; level++) {
+		path[(level - 1) * NAME] = '/';
+		path[level * NAME] = 0;
+		if (!done(mk_mkdir(&h, path, &info)))
+			return false;
+		path[level * NAME] = 'x';
+	}
+	path[NAME] = 0;
+	memcpy(path + NAME + 1, "pids.max", sizeof "pids.max"); /* for mk_read_many */
+	return done(mk_vanish(&h, path, 1, &info));
+}
+
+static void *run(void *call)
+{
+	uint32_t status = deep_calls[*(size_t *)call].make();
+	return status == deep_calls[*(size_t *)call].status ? call : NULL;
+}
+
+static int with_little_stack(void)
+{
+	pthread_attr_t little;
+	pthread_t thread;
+	void *good;
+	size_t left;
+	CHECK(pthread_attr_init(&little) == 0 && pthread_attr_setstacksize(&little, STACK) == 0);
+	for (size_t i = 0; i < sizeof deep_calls / sizeof *deep_calls; i++) {
+		CHECK(is_deep() && pthread_create(&thread, &little, run, &i) == 0);
+		CHECK(pthread_join(thread, &good) == 0 && good != NULL);
+		mk_close(&other);
+		CHECK(mk_clear_faults(&h, &left) == MK_DONE && done(mk_undo_to(&h, 0, &info)));
+	}
+	CHECK(pthread_attr_destroy(&little) == 0);
+	return 0;
+}
+
 static int others(void)
 {
 	size_t number;
@@ -105,7 +169,7 @@ static int others(void)
 
 int main(void)
 {
-	int (*const parts[])(void) = { room, commands, undos, others };
+	int (*const parts[])(void) = { with_little_stack, room, commands, undos, others };
 	if (mk_open(&h) != MK_DONE)
 		return 1;
 	return run_all(parts, sizeof parts / sizeof *parts);

@@ -61,6 +61,8 @@ static const char *const blanks[] = { "", " ", "\n", "\t\r\n" };
 static int mount_error(const struct taking *file, const char *data, size_t size)
 {
 	char said[SAID_MAX];
+	if (size == 0)
+		return 0; /* the kernel doesn't tell a file system of it */
 	int error = -written_value(file->value, data, size, said);
 	if (error != 0)
 		return error;
@@ -238,8 +240,12 @@ static void others(void)
 	CHECK(put("/c", "cpu.stat", "1", 1) == ENOENT && info.code == MK_NO_GROUP,
 		"a constant of a group that is not there");
 	CHECK(put("/a", "pids.current", "1", 1) == EINVAL && info.code == MK_DIRECTION &&
-			put("/a", "cpu.stat", "", 1) == EINVAL,
+			put("/a", "cpu.stat", "\n", 1) == EINVAL,
 		"files that are read");
+	CHECK(put("/a", "cpu.stat", "", 1) == 0 && put("/a", "pids.current", "", 1) == 0 &&
+			put("/", "cgroup.procs", "", 9) == 0 && put("/a", "cgroup.freeze", "", 1) == 0 &&
+			put("/a", "cgroup.type", "", 1) == 0 && put("/c", "pids.max", "", 1) == ENOENT,
+		"empty writes");
 	CHECK(put("/a", "cgroup.type", "domain\n", 1) == 0 && put("/a", "cgroup.type", "threaded", 1) == EOPNOTSUPP,
 		"a constant");
 	CHECK(put("/", "cgroup.subtree_control", "+pids\n", 1) == 0 &&

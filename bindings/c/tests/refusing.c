@@ -543,6 +543,63 @@ static bool refuse_locks(void)
 	return mk_close(&other) == MK_DONE;
 }
 
+/* ---- a frozen group that is removed and made again isn't frozen, also if the removal had no memory to look for it */
+
+CALL(make_long, mk_mkdir(&h, LONG, &info))
+CALL(remove_long, mk_rmdir(&h, LONG, &info))
+CALL(undo_once, mk_undo(&h, 1, out, sizeof out, &info))
+CALL(undo_to, mk_undo_to(&h, depth() - 1, &info))
+CALL(undo_by_line, ask("undo"))
+CALL(undo_both, mk_rmdir(&h, LONG, &info) == MK_DONE ? mk_undo_to(&h, 0, &info) : (uint32_t)MK_OUT_OF_MEMORY)
+CALL(vanish_and_make, mk_vanish(&h, LONG, 1, &info) == MK_DONE ? mk_mkdir(&h, LONG, &info) : (uint32_t)MK_OUT_OF_MEMORY)
+
+static const struct {
+	uint32_t (*remove)(void);
+	uint32_t (*make_again)(void); /* NULL: the removal may have made it again */
+} removals[] = { { remove_long, make_long }, { remove_long, undo_once }, { remove_long, undo_to },
+	{ remove_long, undo_by_line }, { undo_once, make_long }, { undo_to, make_long }, { undo_by_line, make_long },
+	{ undo_both, NULL }, { vanish_and_make, NULL } };
+
+static bool is_thawed_by(uint32_t (*remove)(void), uint32_t (*make_again)(void), long n, bool *had_all)
+{
+	size_t faults;
+	must("mkdir " LONG);
+	if (mk_put(&h, LONG, "cgroup.freeze", "1", 1, 1, &info) != MK_DONE)
+		return false;
+	left = n;
+	uint32_t status = remove();
+	*had_all = left >= 0;
+	left = -1;
+	mk_clear_faults(&h, &faults);
+	if (status == MK_DONE && make_again != NULL) {
+		without_memory = true;
+		status = make_again();
+		without_memory = false;
+		if (status != MK_OUT_OF_MEMORY || make_again() != MK_DONE)
+			return false;
+	} else if (status != MK_DONE) {
+		mk_rmdir(&h, LONG, &info); /* if it is there */
+	}
+	mk_mkdir(&h, LONG, &info);
+	return mk_get(&h, LONG, "cgroup.freeze", (char *)out, sizeof out, &info) == MK_DONE && out[0] == '0' &&
+		mk_undo_to(&h, 0, &info) == MK_DONE;
+}
+
+static bool refuse_the_freezer(void)
+{
+	for (size_t i = 0; i < sizeof removals / sizeof *removals; i++) {
+		bool had_all = false;
+		for (long n = 0; !had_all; n++) {
+			if (!is_thawed_by(removals[i].remove, removals[i].make_again, n, &had_all)) {
+				fprintf(stderr, "refusing.c: removal %zu, allocation %ld: the new group is frozen\n", i, n);
+				return false;
+			}
+			refused += !had_all;
+		}
+	}
+	return true;
+}
+
 static void fill(void)
 {
 	static const char *const commands[] = { "mkdir /a", "mkdir " LONG, "mkdir " LONG "/b", "fork 1 2", "fork 1 3",
@@ -571,7 +628,7 @@ int main(void)
 		fprintf(stderr, "refusing.c: the memory of a lock\n");
 		return 1;
 	}
-	if (!refuse_at_lines())
+	if (!refuse_at_lines() || !refuse_the_freezer())
 		return 1;
 	fill();
 	for (size_t i = 0; i < sizeof calls / sizeof *calls; i++)

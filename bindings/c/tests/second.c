@@ -1,5 +1,5 @@
-/* What a second handle of an engine, another engine and the child of a fork see: of commands, faults, changes and the end. Exits with the
-   number of the first check that fails, or 0, and prints how many held. */
+/* What a second handle of an engine, another engine, one from before main, and the child of a fork see: of commands, faults, changes and
+   the end. Exits with the number of the first check that fails, or 0, and prints how many held. */
 #include "check.h"
 #include <pthread.h>
 #include <sys/wait.h>
@@ -79,7 +79,7 @@ static void *list_copies(void *stop)
 static int copy_of_a_quick_handle(void)
 {
 	enum { RECORDS = 3000 };
-	mk_handle quick, copy_quick;
+	mk_handle quick, copy_quick, gone = { 0 }, stale;
 	pthread_t threads[2];
 	void *good;
 	static bool stop;
@@ -87,6 +87,10 @@ static int copy_of_a_quick_handle(void)
 	mk_nonblocking(&h, &quick);
 	for (int i = 0; i < RECORDS; i++)
 		CHECK(done(mk_write(&h, "/", "cgroup.max.depth", i % 2 == 0 ? "5" : "6", &info)));
+	/* a handle of an engine that is closed; the copy takes its place */
+	CHECK(mk_open(&gone) == MK_DONE);
+	mk_nonblocking(&gone, &stale);
+	CHECK(mk_close(&gone) == MK_DONE);
 	CHECK(mk_copy(&quick, &copied) == MK_DONE && mk_depth(&copied, &size) == MK_DONE && size == RECORDS);
 	mk_nonblocking(&copied, &copy_quick);
 	mk_nonblocking(&copy_quick, &copy_quick); /* once more changes nothing */
@@ -94,13 +98,42 @@ static int copy_of_a_quick_handle(void)
 		pthread_create(&threads[1], NULL, list_copies, &stop) == 0);
 	while (blocked < 10) {
 		CHECK(mk_depth(&copied, &size) == MK_DONE && size == RECORDS); /* waits, also while the other lists */
-		blocked += mk_depth(&copy_quick, &size) == MK_WOULD_BLOCK;
+		if (mk_depth(&copy_quick, &size) != MK_WOULD_BLOCK)
+			continue;
+		blocked++;
+		/* a call on another engine, as now, keeps it neither from being closed nor from being opened again */
+		gone = stale;
+		CHECK(mk_depth(&gone, &size) == MK_CLOSED && mk_close(&gone) == MK_CLOSED);
+		CHECK(mk_open(&gone) == MK_DONE && mk_close(&gone) == MK_DONE);
 	}
 	__atomic_store_n(&stop, true, __ATOMIC_RELEASE);
 	for (int i = 0; i < 2; i++)
 		CHECK(pthread_join(threads[i], &good) == 0 && good != NULL);
 	CHECK(mk_close(&copied) == MK_DONE && mk_depth(&copy_quick, &size) == MK_CLOSED && done(mk_undo_to(&h, 0, &info)) &&
 		info.count == RECORDS);
+	return 0;
+}
+
+/* ---- a program's own constructor may run before the library's, and opens all the same */
+
+static mk_handle early;
+static uint32_t early_status = MK_BUSY;
+
+__attribute__((constructor)) static void open_early(void)
+{
+	early_status = mk_open(&early);
+}
+
+static int opened_early(void)
+{
+	int status;
+	CHECK(early_status == MK_DONE && done(mk_mkdir(&early, "/a", &info)));
+	pid_t pid = fork();
+	CHECK(pid >= 0);
+	if (pid == 0)
+		_exit(mk_has_group(&early, PATH("/a"), &info) == MK_DONE && mk_close(&early) == MK_DONE ? 0 : 1);
+	CHECK(waitpid(pid, &status, 0) == pid && WIFEXITED(status) && WEXITSTATUS(status) == 0);
+	CHECK(mk_close(&early) == MK_DONE);
 	return 0;
 }
 
@@ -250,7 +283,7 @@ static int closed(void)
 
 int main(void)
 {
-	int (*const parts[])(void) = { one_engine, copy_of_a_quick_handle, two_engines, forked, closed };
+	int (*const parts[])(void) = { opened_early, one_engine, copy_of_a_quick_handle, two_engines, forked, closed };
 	if (mk_open(&h) != MK_DONE)
 		return 1;
 	alarm(PATIENCE_SECONDS);
