@@ -44,7 +44,7 @@ complete -c makhloeum -n '__makhloeum_command run; and __makhloeum_run' -l trace
 complete -c makhloeum -n '__makhloeum_command run; and __makhloeum_run' -l answers -r -F -d 'keep the answers in a file'
 complete -c makhloeum -n '__makhloeum_command run; and __makhloeum_run' -l keep -x -a 'memory,cpu,io,cpuset' -d 'store values of other controllers'
 complete -c makhloeum -n '__makhloeum_command run; and __makhloeum_run' -l control -d 'serve the control files'
-complete -c makhloeum -n '__makhloeum_command run; and __makhloeum_run' -l root -d 'at /sys/fs/cgroup'
+complete -c makhloeum -n '__makhloeum_command run; and __makhloeum_run' -l root -d 'as root of a user namespace'
 complete -c makhloeum -n '__makhloeum_command run; and __makhloeum_run' -l users -d 'with all users'
 complete -c makhloeum -n '__makhloeum_command run; and __makhloeum_run' -l threads=no -d 'count processes only'
 complete -c makhloeum -n '__makhloeum_command view' -F

@@ -123,6 +123,14 @@ class Completion(unittest.TestCase):
                 self.assertEqual((ran.returncode, ran.stdout, ran.stderr), (0, "", ""))
 
     @unittest.skipUnless(shutil.which("fish"), "fish is missing")
+    def test_what_root_means(self):
+        for name, line in (
+            ("_makhloeum", "'--root[as root of a user namespace]' "),
+            ("makhloeum.fish", "-l root -d 'as root of a user namespace'\n"),
+        ):
+            with open(f"{TOP}/completion/{name}", encoding="ascii") as it:
+                self.assertIn(line, it.read())
+
     def test_the_options_that_fish_offers(self):
         for line, option in LINES:
             said = self.run_it("fish", "--no-config", "-c", FISH, f"{TOP}/completion/makhloeum.fish", line)

@@ -23,7 +23,7 @@ TREE = {
     "lib/.debug/libmakhloeum.so.7.8.9.debug": "with .debug_info of the library\n",
     "lib/libmakhloeum.a": "archive\n",
     "lib/pkgconfig/makhloeum.pc": "prefix=@PREFIX@\nlibdir=${prefix}/lib\nincludedir=${prefix}/include\nat=@PREFIX@/x\n",
-    "libexec/makhloeum/makhloeum-view": "view\n",
+    "libexec/makhloeum/makhloeum-view": "#!/usr/bin/env python3\nview\n",
     "include/makhloeum.h": "header\n",
     **{
         f"share/man/man{section}/{name}.{section}": f"{name}\n"
@@ -48,7 +48,7 @@ TOOLS = {
     "dpkg": '[ "$*" = --print-architecture ] && echo amd64',
     "cc": '[ "$*" = -print-multiarch ] && echo a-b-c',
     "dpkg-query": "[ \"$*\" = '-W -f ${Version} libc6' ] && echo 2.36-9+deb12u7",
-    "readelf": 'case $1 in -n) sed -n "s/^id \\(..*\\)/    Build ID: \\1/p" "$2" ;; -SW) sed "s/with / [1] /" "$2" ;; esac',
+    "readelf": 'case $1 in -n) sed -n "s/^id \\(..*\\)/    Build ID: \\1/p" "$2" ;; -SW) echo no interpreter >&2; sed "s/with / [1] /" "$2" ;; esac',
     "dpkg-deb": '[ "$1 $2 $3" = "--root-owner-group -Zxz --build" ] && cp -a "$4" "$5.folder" && : >"$5" && echo said',
 }
 ALL = "7.8.9_amd64.deb", "7.8.9_all.deb"
@@ -186,6 +186,8 @@ class Debs(unittest.TestCase):
         self.assertEqual(os.readlink(f"{two}/share/man/man3/mk_b.3.gz"), "mk_a.3.gz")
         described = "prefix=/usr\nlibdir=${prefix}/lib/a-b-c\nincludedir=${prefix}/include\nat=/usr/x\n"
         self.assertEqual(self.text(f"{two}/lib/a-b-c/pkgconfig/makhloeum.pc"), described)
+        view = f"{folders['python3-makhloeum']}/usr/libexec/makhloeum/makhloeum-view"
+        self.assertEqual(self.text(view), "#!/usr/bin/python3\nview\n", "the Python that has the package")
         for page in (f"{two}/share/man/man3/mk_a.3.gz", f"{folders['makhloeum']}/usr/share/man/man1/tool.1.gz"):
             with open(page, "rb") as it:
                 packed = it.read()
@@ -227,6 +229,20 @@ class Debs(unittest.TestCase):
         self.assertEqual(self.text(f"{library}/DEBIAN/shlibs"), "libmakhloeum 7 libmakhloeum7 (>= 7.8.9)\n")
         self.assertEqual(self.text(f"{library}/DEBIAN/triggers"), "activate-noawait ldconfig\n")
 
+    def test_only_what_was_proved_is_called_verified(self):
+        for path in ("", "bin/plain", "lib/libmakhloeum.so.7.8.9"):
+            if path:
+                self.write(f"tree/{path}", f"{TREE[path]}\0without proofs\0", 0o755)
+            folders, _ = self.made()
+            for package in ("libmakhloeum7", "makhloeum"):
+                said = self.text(f"{folders[package]}/DEBIAN/control").partition("Description: ")[2]
+                self.assertEqual("Its engine is verified." in said, not path, said)
+                self.assertEqual("It was made without proofs." in said, path != "", said)
+            if path:
+                self.write(f"tree/{path}", TREE[path], 0o755)
+            shutil.rmtree(f"{self.top}/to")
+            os.mkdir(f"{self.top}/to")
+
     def test_the_license_and_the_changes(self):
         folders, _ = self.made()
         of_mit = self.text(f"{TOP}/LICENSE-MIT").split("\n", 4)[4]
@@ -255,6 +271,26 @@ class Debs(unittest.TestCase):
             self.assertEqual(head, "makhloeum (7.8.9) unstable; urgency=medium")
             self.assertRegex(change, r"^  \* \S")
             self.assertEqual(end, f" -- {WHO}  Wed, 04 Mar 2026 00:00:00 +0000\n")
+
+    def test_what_python_compiled_goes_with_its_package(self):
+        folders, _ = self.made()
+        script = f"{folders['python3-makhloeum']}/DEBIAN/prerm"
+        self.assertEqual(stat.S_IMODE(os.stat(script).st_mode), 0o755)
+        root = f"{self.top}/root"
+        at = f"{root}/usr/lib/python3/dist-packages"
+        own = ("makhloeum/__pycache__/x.pyc", "makhloeum/page/__pycache__/y.pyc", "__pycache__/makhloeum_pytest.z.pyc")
+        others = ("makhloeum/__init__.py", "__pycache__/other.z.pyc")
+        for written, kept in (((*own, *others), others), (own, others), ((), others)):
+            for name in written:
+                self.write(os.path.relpath(f"{at}/{name}", self.top), "")
+            how = {"env": dict(os.environ, DPKG_ROOT=root), "capture_output": True, "text": True, "check": False}
+            ran = subprocess.run([script, "remove"], **how)
+            self.assertEqual((ran.returncode, ran.stdout, ran.stderr), (0, "", ""))
+            self.assertEqual(self.files(at), set(kept))
+            self.assertEqual(os.listdir(f"{at}/makhloeum/page"), [])
+        os.remove(f"{at}/{others[1]}")
+        subprocess.run([script, "upgrade", "7.8.10"], env=dict(os.environ, DPKG_ROOT=root), check=True)
+        self.assertFalse(os.path.exists(f"{at}/__pycache__"), "no empty folder stays")
 
     def test_the_date_that_the_caller_wants(self):
         folders, _ = self.made(SOURCE_DATE_EPOCH="86400", LC_ALL="C", TZ="America/Anchorage")

@@ -103,6 +103,8 @@ class Mutants(MadeUp):
             ("mount/mutants/a.c.mutants", 2),
         ):
             self.assertEqual(self.run_with(word)[-1], f"{count} passed, 0 failed")
+        self.assertEqual(self.run_with("a", "mount/b")[-1], "2 passed, 0 failed")
+        self.assertNotIn("mutants: mount/a: caught by one", self.run_with("a", "nobody", status=2))
 
     def test_one_that_changes_two_files(self):
         lines = (

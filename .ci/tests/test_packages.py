@@ -83,7 +83,7 @@ class Packages(unittest.TestCase):
                 os.chmod(f"{self.top}/{folder}/{name}", 0o700)
             for name in (".hidden.py", "below/more.py", "folder.py/more.py"):  # what is none of its sources
                 self.write(f"{folder}/{name}", "")
-        self.assertEqual(self.run_it("bindings/package", f"{self.top}/to"), (0, "", ""))
+        self.assertEqual(self.run_it("bindings/package", f"{self.top}/to", CDPATH="."), (0, "", ""))
         wanted = {}
         for source, place in (("bindings/python/makhloeum", ""), ("look/page", "page/"), ("look/check", "check/")):
             names = (it.name for it in os.scandir(f"{TOP}/{source}") if it.is_file() and it.name[0] != ".")

@@ -119,6 +119,15 @@ end_parts"""
         with open(f"{work}/log", encoding="ascii") as it:
             self.assertEqual((status, it.read()), (5, "began\nended\n"))
 
+    def test_what_a_function_runs_is_ended_with_its_gate(self):
+        """The gate waits for it too, and nothing else of the function runs."""
+        ends = "sleep 0.5; echo ended >>$1/log; exit"
+        runs = f"""bash -c 'trap "{ends}" TERM; echo began >>$1/log; while :; do sleep 0.01; done' part "$work" """
+        wait = 'until [ -e "$work/log" ]; do sleep 0.01; done\nexit 5'
+        _, _, work = self.played(f"runs() {{ {runs}; echo went on >>$work/log; }}\npart waits runs\n{wait}")
+        with open(f"{work}/log", encoding="ascii") as it:
+            self.assertEqual(it.read(), "began\nended\n")
+
     def test_one_part_at_a_time_installs_packages(self):
         with tempfile.TemporaryDirectory() as tools:
             at = f"{tools}/apt-get"

@@ -74,6 +74,12 @@ class Reference(unittest.TestCase):
                         if parameter not in ("h", "info", "void"):
                             self.assertIn(f"\\fI{parameter}\\fR", text, f"{name}: what the argument is")
 
+    def test_no_underscore_stands_for_a_font(self):
+        for page in glob.glob(os.path.join(TOP, "man", "*.[1-9]")):
+            with self.subTest(os.path.basename(page)):
+                text = re.sub(r"\\f[BIRP]", "", read(page))
+                self.assertEqual(re.findall(r"(?<!\w)_\w+_(?!\w)", text), [])
+
     def test_the_overview_has_each_page(self):
         text = read(os.path.join(TOP, "man", "makhloeum.3"))
         listed = re.findall(r"^\.TP\n\.BR (mk_\w+) \(3\)$", text, re.M)

@@ -154,6 +154,18 @@ class Texts(unittest.TestCase):
                 self.assertIsNone(joined.search(text), name)
         self.assertGreater(tried, 50)
 
+    def test_no_script_looks_for_its_folder_along_cdpath(self):
+        """There `cd` looks for a relative folder first, and prints what it finds."""
+        tried = 0
+        for folder in ("", ".ci", ".ci/installed", "bindings", "evidence", "look", "mount", "mount/fuzz"):
+            for name in filter(os.path.isfile, (f"{TOP}/{folder}/{it}" for it in os.listdir(f"{TOP}/{folder}"))):
+                with open(name, encoding="utf-8", errors="replace") as it:
+                    before, found, _ = it.read().partition('cd "$(dirname "$0")')
+                if before.startswith(("#!/bin/sh", "#!/usr/bin/env bash")) and found:
+                    tried += 1
+                    self.assertIn("\nunset CDPATH", before, name)
+        self.assertGreater(tried, 20)
+
 
 if __name__ == "__main__":
     unittest.main()

@@ -255,6 +255,13 @@ class OfThisRepository(unittest.TestCase):
         self.assertIn(ran.wait(), (0, -signal.SIGPIPE))
         self.assertEqual(said, b"")
 
+    def test_it_says_that_its_output_is_full(self):
+        with open("/dev/full", "wb") as full:
+            ran = subprocess.run(
+                [os.path.join(TOP, "where"), "mkdir"], stdout=full, stderr=subprocess.PIPE, check=False
+            )
+        self.assertEqual((ran.returncode, ran.stderr), (2, b"where: write failed: No space left on device\n"))
+
     def test_a_file_and_its_variant(self):
         screen = "\n".join(self.searches["pids.peak"].screen())
         self.assertIn("pids.peak = PidsPeak\n  file: not on the root, read, not written; the number", screen)
