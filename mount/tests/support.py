@@ -123,7 +123,8 @@ class Mount:
         self.at = os.path.join(self.home, "at")
         self.trace = trace or os.path.join(self.home, "trace")
         self.answers = answers or os.path.join(self.home, "answers")
-        self.said = open(os.path.join(self.home, "said"), "w+")
+        # to be appended to: its offset is the mount's too, which a read here moves
+        self.said = open(os.path.join(self.home, "said"), "a+")
         os.mkdir(self.at)
         options = (*options, "--control") if control and "--control" not in options else options
         before = (lambda: resource.setrlimit(resource.RLIMIT_FSIZE, limit)) if limit else None

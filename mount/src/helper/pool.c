@@ -170,7 +170,8 @@ static bool is_needed(bool is_first)
 	if (is_watched && !is_first)
 		return false;
 	if (is_watched) {
-		first_is_free = true; /* another thread watches, and ends when it is quiet after a call */
+		first_is_free = true; /* another thread watches, and ends when it is quiet */
+		end_rest(); /* at rest it would not see that it isn't needed */
 		while (first_is_free)
 			pthread_cond_wait(&needed, &lock);
 	}

@@ -81,6 +81,12 @@ ran = subprocess.run(
 )
 same("without PATH, not executable", without_notes((ran.returncode, ran.stderr)), denied("found"))
 same("without a name", said(usual, "run", ""), missing(""))
+r, w = os.pipe2(os.O_DIRECT)  # a read takes what one write gave
+subprocess.run([PROGRAM, "run", "/nowhere/found"], stderr=w, timeout=PATIENCE)
+os.close(w)
+same("a message is one write", os.read(r, 4096).decode(), missing("/nowhere/found")[1])
+long = 9000 * "n"
+same("however long", said(usual, "run", long), (126, "makhloeum: %s: File name too long\n" % long))
 os.chmod(closed, 0o700)
 os.chdir("/")
 shutil.rmtree(home)

@@ -223,6 +223,18 @@ static int opens(int few, int many, pid_t supervisor)
 	return 0;
 }
 
+/* A clone3 whose arguments come late: the errno, or 0. */
+static int clone3_late(void)
+{
+	long pid = syscall(SYS_clone3, page(), sizeof(struct clone_args));
+	if (pid == 0)
+		_exit(0);
+	printf("%d\n", pid > 0 ? 0 : errno);
+	fflush(stdout);
+	pause();
+	return 0;
+}
+
 enum { STORMS = 4, STORM = 1500 };
 static atomic_int begun, stormed; /* threads that have made a call, and those that have made all of theirs */
 
@@ -329,6 +341,8 @@ int main(int argc, char **argv)
 		return leader(true, argc > 3 ? argv[3] : NULL);
 	else if (strcmp(what, "reader") == 0)
 		return reader(argc > 3);
+	else if (strcmp(what, "late") == 0)
+		return clone3_late();
 	else if (strcmp(what, "flood") == 0)
 		return call_at_once();
 	else if (strcmp(what, "sixteen") == 0 || strcmp(what, "full") == 0 || strcmp(what, "opens") == 0 ||

@@ -403,6 +403,19 @@ def opening():
     step("others still run", forks())
 
 
+def left():
+    """A clone3 waits for its arguments, while nothing else asks the helper. Once they have come, it has no more threads than before."""
+    stalled, helper = os.path.dirname(PAGE), server_and_helper(tracer())[1]
+    count = lambda: len(os.listdir("/proc/%d/task" % helper))  # the filter passes an open of a directory
+    same("the threads of the helper", count(), 3)
+    p = subprocess.Popen([BLOCKING, "late", stalled + "/late"], stdout=subprocess.PIPE)
+    step("a thread is kept waiting", until(lambda: count() == 4), count())
+    time.sleep(0.5)  # the one that watches rests
+    same("its arguments come", (os.path.exists(stalled + "/go"), p.stdout.readline()), (False, b"0\n"))
+    step("the thread that is left over ends", until(lambda: count() == 3, 5), count())
+    p.kill()
+
+
 def storming():
     """An open waits for memory while clone3 calls come all the time: another one is answered before they end."""
     ran = subprocess.run([BLOCKING, "beside", PAGE], stdout=subprocess.PIPE, timeout=PATIENCE)
@@ -642,6 +655,7 @@ INSIDE = {
     waiting: [],
     crowded: [],
     opening: [],
+    left: [],
     storming: [],
     resting: ["--root"],
     stopped: [],
