@@ -122,7 +122,6 @@ class Completion(unittest.TestCase):
                 ran = subprocess.run([*generate, "--check"], capture_output=True, text=True)
                 self.assertEqual((ran.returncode, ran.stdout, ran.stderr), (0, "", ""))
 
-    @unittest.skipUnless(shutil.which("fish"), "fish is missing")
     def test_what_root_means(self):
         for name, line in (
             ("_makhloeum", "'--root[as root of a user namespace]' "),
@@ -131,6 +130,7 @@ class Completion(unittest.TestCase):
             with open(f"{TOP}/completion/{name}", encoding="ascii") as it:
                 self.assertIn(line, it.read())
 
+    @unittest.skipUnless(shutil.which("fish"), "fish is missing")
     def test_the_options_that_fish_offers(self):
         for line, option in LINES:
             said = self.run_it("fish", "--no-config", "-c", FISH, f"{TOP}/completion/makhloeum.fish", line)
