@@ -150,6 +150,30 @@ class Gates(unittest.TestCase):
         text = "import unittest\n\n\nclass One(unittest.TestCase):\n    def test(self):\n        self.fail()\n"
         self.write(".ci/tests/test_one.py", text)
 
+    def assert_what_needs_the_library_runs(self, gate, builder):
+        """Two tests of scripts have no library before this part has ended; one of them lacks a tool too."""
+        text = """import os
+import unittest
+
+
+class One(unittest.TestCase):
+    def test(self):
+        if not os.path.exists("%s/library"):
+            self.skipTest("there is no static library, or a tool is missing")
+        %s
+"""
+        ran = f"{self.top}/ran"
+        self.write(".ci/tests/test_packages.py", text % (self.top, f"os.makedirs('{ran}', exist_ok=True)"))
+        self.write(".ci/tests/test_building.py", text % (self.top, "self.skipTest('fish is missing')"))
+        self.write(builder, (STUB % self.top).replace("exit", '[ -z "$name" ] || >$top/library\nexit', 1), 0o755)
+        status, lines = self.played(gate)
+        self.assertEqual(status, 0, lines)
+        self.assertTrue(os.path.exists(ran))
+        self.assertEqual(
+            [line for line in lines if "tests of scripts: skipped" in line and line.startswith("  ")],
+            ["  the tests of scripts: skipped, fish is missing"],
+        )
+
     @staticmethod
     def names_of(lines):
         """The name of each part, with the first command of it that told something."""
@@ -215,6 +239,9 @@ class Run(Gates):
             "mutants": LAST,
         }
         self.assertEqual(self.names_of(lines), {**NAMES, **OF_TWO, **more})
+
+    def test_tests_of_scripts_that_need_the_library_run_once_it_is_built(self):
+        self.assert_what_needs_the_library_runs(".ci/run", "bindings/build")
 
     def test_the_proofs_begin_only_if_documents_and_mutants_are_right(self):
         for name in (".ci/documents", ".ci/laws", "completion/generate", ".ci/mutants"):
@@ -470,6 +497,9 @@ class AllUnproved(Gates):
     def test_parts_that_may_hang_have_an_end(self):
         wanted = {"look/test-check": ["-k", "60", "1200"], "mount/test": ["-k", "60", "1800"]}
         self.assertEqual(self.parts_with_a_time(".ci/all-unproved"), wanted)
+
+    def test_tests_of_scripts_that_need_the_library_run_once_it_is_built(self):
+        self.assert_what_needs_the_library_runs(".ci/all-unproved", "try")
 
     def test_without_what_try_makes_the_other_tests_run(self):
         self.comes_to("try", 1)
