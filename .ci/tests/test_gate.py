@@ -159,13 +159,16 @@ import unittest
 class One(unittest.TestCase):
     def test(self):
         if not os.path.exists("%s/library"):
+            os.makedirs("%s", exist_ok=True)
             self.skipTest("there is no static library, or a tool is missing")
         %s
 """
-        ran = f"{self.top}/ran"
-        self.write(".ci/tests/test_packages.py", text % (self.top, f"os.makedirs('{ran}', exist_ok=True)"))
-        self.write(".ci/tests/test_building.py", text % (self.top, "self.skipTest('fish is missing')"))
-        self.write(builder, (STUB % self.top).replace("exit", '[ -z "$name" ] || >$top/library\nexit', 1), 0o755)
+        asked, ran = f"{self.top}/asked", f"{self.top}/ran"
+        # these run in this order
+        self.write(".ci/tests/test_building.py", text % (self.top, self.top, "self.skipTest('fish is missing')"))
+        self.write(".ci/tests/test_packages.py", text % (self.top, asked, f"os.mkdir('{ran}')"))
+        making = f"until [ -e {asked} ]; do sleep 0.1; done\n>$top/library\nexit"
+        self.write(builder, f"{STUB % self.top}\n".replace("\nexit", f"\n{making}"), 0o755)
         status, lines = self.played(gate)
         self.assertEqual(status, 0, lines)
         self.assertTrue(os.path.exists(ran))
