@@ -186,6 +186,7 @@ func TestFaultsCountOperationsOnFiles(t *testing.T) {
 		"open a/pids.peak: read /a pids.peak":       func() error { _, err := f.Open("a/pids.peak"); return err },
 		"write a/pids.max: write /a pids.max":       func() error { return f.WriteFile("a/pids.max", []byte("5")) },
 		"write a: has_group /a":                     func() error { return f.WriteFile("a", []byte("5")) },
+		"write a/none: has_group /a":                func() error { return f.WriteFile("a/none", nil) },
 		"mkdir a: mkdir /a":                         func() error { return f.Mkdir("a") },
 		"remove a: rmdir /a":                        func() error { return f.Remove("a") },
 	} {

@@ -7,6 +7,7 @@ import (
 	"io/fs"
 	"path"
 	"sort"
+	"strings"
 	"syscall"
 	"time"
 )
@@ -208,7 +209,8 @@ func (o *openGroup) ReadDir(n int) ([]fs.DirEntry, error) {
 
 // WriteFile writes data to the file of that name, as os.WriteFile does below a mount: numbers may be octal, hexadecimal or signed, a
 // constant accepts its current value, cgroup.freeze freezes, and 0 in cgroup.procs is this process. The error is the errno of a mount, such as
-// syscall.ENOENT, EINVAL, ERANGE or ESRCH. A kill takes time for each process that it ends.
+// syscall.EINVAL, ERANGE or ESRCH, ENOENT for a missing group, and EACCES for a file that its group lacks. A kill takes time for each process that
+// it ends.
 func (f FS) WriteFile(name string, data []byte) error {
 	if !fs.ValidPath(name) {
 		return &fs.PathError{Op: "open", Path: name, Err: fs.ErrInvalid}
@@ -225,13 +227,30 @@ func (f FS) write(name string, data []byte) error {
 	err := error(syscall.EISDIR)
 	if it, ok := fileNamed(base, group); ok {
 		err = f.h.put(group, it, data, f.self)
-	} else if _, missing := f.node(name); missing != nil {
+	} else if _, missing := f.node(name); missing == syscall.ENOENT {
+		err = f.notCreated(name)
+	} else if missing != nil {
 		err = missing
 	}
 	if err == syscall.ENOENT && f.isBelowFile(name) {
 		return syscall.ENOTDIR
 	}
 	return err
+}
+
+// notCreated returns the error of an open that would create the file of that name: no group lets a file be created.
+func (f FS) notCreated(name string) error {
+	if strings.Contains(name, "\x00") {
+		return syscall.EINVAL
+	}
+	there, err := f.h.HasGroup(groupOf(path.Dir(name)))
+	if err != nil {
+		return notFound(err)
+	}
+	if !there {
+		return syscall.ENOENT
+	}
+	return syscall.EACCES
 }
 
 // isBelowFile says whether a part of the name before its last one is a file that is there.

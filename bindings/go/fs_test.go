@@ -40,10 +40,10 @@ func TestFileSystemChanges(t *testing.T) {
 		want error
 	}{
 		{f.Mkdir("a"), fs.ErrExist}, {f.Mkdir("x/y"), fs.ErrNotExist}, {f.Mkdir("/a"), fs.ErrInvalid}, {f.Remove("a"), syscall.EBUSY},
-		{f.WriteFile("a/none", nil), fs.ErrNotExist}, {f.WriteFile("a/cgroup.freeze", []byte("2")), syscall.ERANGE},
+		{f.WriteFile("a/none", nil), fs.ErrPermission}, {f.WriteFile("a/cgroup.freeze", []byte("2")), syscall.ERANGE},
 		{f.WriteFile("x/pids.max", []byte("1")), fs.ErrNotExist}, {f.WriteFile("a/pids.max", []byte("x")), syscall.EINVAL},
-		{f.WriteFile("x/cgroup.freeze", []byte("0")), fs.ErrNotExist}, {f.WriteFile("cgroup.type", []byte("domain")), fs.ErrNotExist},
-		{f.WriteFile("cgroup.kill", []byte("1")), fs.ErrNotExist}, {f.WriteFile("a/cpu.stat", []byte("1")), syscall.EINVAL},
+		{f.WriteFile("x/cgroup.freeze", []byte("0")), fs.ErrNotExist}, {f.WriteFile("cgroup.type", []byte("domain")), fs.ErrPermission},
+		{f.WriteFile("cgroup.kill", []byte("1")), fs.ErrPermission}, {f.WriteFile("a/cpu.stat", []byte("1")), syscall.EINVAL},
 	} {
 		var path *fs.PathError
 		if !errors.As(row.err, &path) || !errors.Is(row.err, row.want) {
@@ -96,12 +96,14 @@ func TestWritesAreThoseOfAMount(t *testing.T) {
 	for _, row := range []struct{ err, want error }{
 		{f.Mkdir("pids.x"), syscall.EINVAL}, {f.Mkdir("a b"), syscall.EINVAL}, {f.Mkdir(strings.Repeat("x", nameMax+1)), syscall.ENAMETOOLONG},
 		{f.Mkdir(deep[1:] + "/d"), syscall.EAGAIN}, {f.Mkdir("e/" + deep[1:]), syscall.ENOENT}, {f.Mkdir("a/pids.max"), syscall.EEXIST}, {f.Remove("a/pids.max"), syscall.EPERM},
-		{f.Remove("a b"), syscall.ENOENT}, {f.Remove("."), syscall.EBUSY}, {f.WriteFile("a/x\x00y", nil), syscall.ENOENT},
-		{f.WriteFile("a/pids.max\x00y", []byte("7")), syscall.ENOENT}, {f.Remove("x/pids.max"), syscall.ENOENT}, {f.Mkdir("x/pids.max"), syscall.ENOENT},
-		{f.WriteFile("a", []byte("1")), syscall.EISDIR}, {f.WriteFile(".", nil), syscall.EISDIR}, {f.WriteFile("x", []byte("1")), syscall.ENOENT},
+		{f.Remove("a b"), syscall.ENOENT}, {f.Remove("."), syscall.EBUSY}, {f.WriteFile("a/x\x00y", nil), syscall.EINVAL},
+		{f.WriteFile("a/pids.max\x00y", []byte("7")), syscall.EINVAL}, {f.Remove("x/pids.max"), syscall.ENOENT}, {f.Mkdir("x/pids.max"), syscall.ENOENT},
+		{f.WriteFile("a", []byte("1")), syscall.EISDIR}, {f.WriteFile(".", nil), syscall.EISDIR}, {f.WriteFile("x", []byte("1")), syscall.EACCES},
 		{f.Mkdir("cgroup.procs/x"), syscall.ENOTDIR}, {f.Mkdir("a/pids.max/x"), syscall.ENOTDIR}, {f.Mkdir("x/pids.max/y"), syscall.ENOENT},
 		{f.Mkdir("a/pids.max/x/y"), syscall.ENOTDIR}, {f.WriteFile("cgroup.procs/x", nil), syscall.ENOTDIR}, {f.WriteFile("a/cgroup.kill/x", nil), syscall.ENOTDIR},
 		{f.WriteFile("a/pids.max/pids.max/x", nil), syscall.ENOTDIR}, {f.WriteFile("a/pids.max/pids.max", nil), syscall.ENOTDIR}, {f.WriteFile("x/pids.max/y", nil), syscall.ENOENT},
+		{f.WriteFile("a/none", nil), syscall.EACCES}, {f.WriteFile("a/b c", nil), syscall.EACCES}, {f.WriteFile(deep[1:]+"/d", nil), syscall.EACCES},
+		{f.WriteFile("x/none", nil), syscall.ENOENT}, {f.WriteFile("a b/none", nil), syscall.ENOENT}, {f.WriteFile(strings.Repeat("x", nameMax+1), nil), syscall.EACCES},
 		{f.Mkdir("a/cgroup.kill"), syscall.EEXIST}, {f.Mkdir("cgroup.kill"), syscall.EINVAL}, {f.Mkdir("x/cgroup.kill"), syscall.ENOENT},
 	} {
 		if !errors.Is(row.err, row.want) {
@@ -178,11 +180,13 @@ func TestFilesThatTheRootLacks(t *testing.T) {
 		_, stat := f.Stat(it.name)
 		_, opened := f.Open(it.name)
 		_, list := f.ReadDir(it.name)
-		written := f.WriteFile(it.name, []byte("1"))
-		for operation, err := range map[string]error{"read": read, "stat": stat, "open": opened, "list": list, "write": written} {
+		for operation, err := range map[string]error{"read": read, "stat": stat, "open": opened, "list": list} {
 			if !errors.Is(err, fs.ErrNotExist) {
 				t.Errorf("%s %s: %v", operation, it.name, err)
 			}
+		}
+		if err := f.WriteFile(it.name, []byte("1")); !errors.Is(err, syscall.EACCES) {
+			t.Errorf("write %s: %v", it.name, err)
 		}
 	}
 	if lacks < 5 {

@@ -165,7 +165,7 @@ func TestErrorsOfTheFileSystemNameOperationAndFile(t *testing.T) {
 		"write a/pids.max: invalid argument":                                          f.WriteFile("a/pids.max", []byte("x")),
 		"write .: is a directory":                                                     f.WriteFile(".", nil),
 		"open /a/pids.max: invalid argument":                                          f.WriteFile("/a/pids.max", nil),
-		"write a/none: no such file or directory":                                     f.WriteFile("a/none", nil),
+		"write a/none: permission denied":                                             f.WriteFile("a/none", nil),
 		"mkdir a: mkdir /a: file exists (exists)":                                     f.Mkdir("a"),
 		"remove .: rmdir /: device or resource busy (rootfixed)":                      f.Remove("."),
 	} {
