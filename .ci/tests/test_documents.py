@@ -2,6 +2,7 @@
 import contextlib
 import io
 import os
+import shutil
 import subprocess
 import unittest
 from unittest import mock
@@ -277,7 +278,7 @@ class All(MadeUp):
     def all_faults(self, status=1):
         said = io.StringIO()
         with contextlib.redirect_stdout(said):
-            self.assertEqual(documents.main(), status, said.getvalue())
+            self.assertEqual(documents.main([]), status, said.getvalue())
         *faults, last = said.getvalue().splitlines()
         pages = sum(name.endswith(".md") for _, _, names in os.walk(self.top) for name in names)
         self.assertEqual(last, f"documents: {pages} read, {len(faults)} faults")
@@ -347,6 +348,17 @@ class All(MadeUp):
             faults += [f"{page}:1: nothing defines mentioned_word"] if is_defined else []
             self.assertEqual(self.all_faults(status=1 if faults else 0), faults, page)
             self.write(page, before)
+
+    def test_it_says_that_its_output_is_full(self):
+        for name in (".ci/documents", "bindings/python/makhloeum/_output.py"):
+            self.write(name, "")
+            shutil.copy(f"{TOP}/{name}", f"{self.top}/{name}")
+        shutil.copytree(f"{TOP}/.ci/lookup", f"{self.top}/.ci/lookup", ignore=shutil.ignore_patterns("__pycache__"))
+        for unbuffered in ("", "1"):
+            words = dict(os.environ, PYTHONUNBUFFERED=unbuffered)
+            with open("/dev/full", "wb") as full:
+                ran = subprocess.run([f"{self.top}/.ci/documents"], stdout=full, stderr=subprocess.PIPE, env=words)
+            self.assertEqual((ran.returncode, ran.stderr), (1, b"documents: write failed: No space left on device\n"))
 
     def test_each_page_written_by_hand_has_a_limit(self):
         free = ("CHANGELOG.md", "evidence/README.md", "bindings/python/README.md")

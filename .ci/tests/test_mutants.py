@@ -6,7 +6,7 @@ import subprocess
 import unittest
 from unittest import mock
 
-from scripts import MadeUp, load
+from scripts import TOP, MadeUp, load
 
 mutants = load(".ci/mutants")
 
@@ -338,6 +338,13 @@ class Mutants(MadeUp):
         self.write("mount/tests/built.py", "")
         self.mutant("a", test="built")
         self.assertIn("mutants: mount/a: NOT CAUGHT by built", self.run_with(status=1))
+
+    def test_it_says_that_its_output_is_full(self):
+        for unbuffered in ("", "1"):
+            words = dict(os.environ, PYTHONUNBUFFERED=unbuffered)
+            with open("/dev/full", "wb") as full:
+                ran = subprocess.run([f"{TOP}/.ci/mutants", "--due"], stdout=full, stderr=subprocess.PIPE, env=words)
+            self.assertEqual((ran.returncode, ran.stderr), (1, b"mutants: write failed: No space left on device\n"))
 
     def test_wrong_words(self):
         for words in (["--no-such"], ["nobody"], ["--most"], ["--most", "x"], ["--check", "x"]):
