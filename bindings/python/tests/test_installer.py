@@ -189,6 +189,33 @@ def test_somebody_who_may_write_there_installs_it(archive):
         assert (ran.returncode, ran.stdout, ran.stderr) == wanted and there(f"{room}/p") == ALL
 
 
+def test_a_folder_that_cannot_be_written_is_named_and_nothing_is_installed(archive):
+    who = {"user": 65534, "group": 65534, "extra_groups": []} if os.geteuid() == 0 else {}
+    with tempfile.TemporaryDirectory() as room:
+        os.chmod(room, 0o777)
+        shutil.copytree(archive, f"{room}/archive", symlinks=True)
+        for folder in ("p", "later", "q/share/man/man1", "r/a b"):
+            os.makedirs(f"{room}/{folder}")
+        for folder in ("q", "q/share", "q/share/man"):
+            os.chmod(f"{room}/{folder}", 0o777)
+        for folder in ("p", "later", "q/share/man/man1", "r/a b"):
+            os.chmod(f"{room}/{folder}", 0o555)
+        before = sorted(os.walk(room))
+        for prefix, fault in (
+            ("p", "p"),
+            ("p/", "p/"),
+            ("later/on/it", "later"),
+            ("later//on", "later/"),
+            ("q", "q/share/man/man1"),
+            ("r/a b", "r/a b"),
+        ):
+            words = [f"{room}/archive/install", "--prefix", f"{room}/{prefix}"]
+            ran = subprocess.run(words, capture_output=True, text=True, **who)
+            said = f"install: {room}/{fault} can't be written: nothing is installed\n"
+            assert (ran.returncode, ran.stdout, ran.stderr) == (1, "", said), prefix
+            assert sorted(os.walk(room)) == before, prefix
+
+
 def test_an_archive_that_was_unpacked_for_its_owner_is_installed_for_everybody(archive, tmp_path):
     for path in (archive / "tree").rglob("*"):
         if not path.is_symlink():
