@@ -10,6 +10,7 @@ import time
 from typing import Iterator, Optional
 
 from .._output import writes
+from ..page.tree import printable
 from .engine import Words
 from .opening import Unusable
 from .playing import Counts, Difference, Next, Player, listed
@@ -199,7 +200,7 @@ def _interrupt(number: int, frame: object) -> None:
 
 
 def _say(directory: str, what: str) -> None:
-    print(f"makhloeum check: {directory}: {what}", file=sys.stderr)
+    print(f"makhloeum check: {printable(f'{directory}: {what}')}", file=sys.stderr)
 
 
 def _checked(options: argparse.Namespace, player: Player) -> int:

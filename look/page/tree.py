@@ -163,7 +163,7 @@ def _cut(parts: List[_Part], width: Optional[int]) -> Iterator[_Part]:
         left -= _wide(shown)
 
 
-def _printable(name: str) -> str:
+def printable(name: str) -> str:
     """A name may have bytes that move a terminal's cursor."""
     text = os.fsencode(name).decode("utf-8", "backslashreplace")
     return "".join(c if c.isprintable() else c.encode("unicode_escape").decode("ascii") for c in text)
@@ -201,7 +201,7 @@ def _flat(top: Node) -> Iterator[Tuple[str, str, Node]]:
     rest = [(top, "", "")]
     while rest:
         node, indent, mark = rest.pop()
-        yield indent + mark, _printable(node.name), node
+        yield indent + mark, printable(node.name), node
         indent += {"": "", "├─ ": "│  ", "└─ ": "   "}[mark]
         rest += [(below, indent, "├─ " if at else "└─ ") for at, below in enumerate(reversed(node.below))]
 
@@ -347,6 +347,7 @@ def _words(words: List[str]) -> Optional[Tuple[str, Optional[float]]]:
 def main(wanted: Tuple[str, Optional[float]]) -> int:
     folder, seconds = wanted
     try:
+        os.stat(folder)  # an empty path is that of no directory
         os.close(os.open(os.path.join(folder, "cgroup.procs"), os.O_RDONLY))
     except OSError as failure:
         why = (
@@ -354,7 +355,7 @@ def main(wanted: Tuple[str, Optional[float]]) -> int:
             if os.path.isdir(folder) and not os.path.exists(failure.filename)
             else failure.strerror
         )
-        print(f"makhloeum tree: {_printable(folder)} is not a cgroup2 directory: {why}", file=sys.stderr)
+        print(f"makhloeum tree: {printable(folder)} is not a cgroup2 directory: {why}", file=sys.stderr)
         return 2
     # a name may have letters that the output's encoding lacks
     if isinstance(sys.stdout, io.TextIOWrapper):

@@ -16,6 +16,7 @@ from ..hierarchy import Hierarchy
 from .command_line import of_words
 from .history import History, shown
 from .page import page
+from .tree import printable
 
 
 def _words(words: List[str]) -> Optional[Tuple[str, str]]:
@@ -59,7 +60,7 @@ def _write(to: str, text: str) -> None:
 
 
 def _say(sentence: str) -> None:
-    print(f"makhloeum view: {sentence}", file=sys.stderr)
+    print(f"makhloeum view: {printable(sentence)}", file=sys.stderr)
 
 
 def _is_same(trace: str, to: str) -> bool:
@@ -96,5 +97,5 @@ def main(wanted: Tuple[str, str]) -> int:
         _say("out of memory")
         return 1
     if to != "-":
-        print(f"{to}: {len(history.lines)} commands, {history.refused} refused")
+        print(f"{printable(to)}: {len(history.lines)} commands, {history.refused} refused")
     return 0

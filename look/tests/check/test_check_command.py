@@ -184,7 +184,7 @@ def test_known_differences_come_by_their_number(capsys):
     [
         ([], [], 0),
         ([difference("rmdir /a")], [], 1),
-        ([], ["/dir/x", "/dir/y"], 2),
+        ([], ["/dir/\x1b[31mx\n", "/dir/y"], 2),
         ([difference("rmdir /a")], ["/dir/x"], 1),
     ],
 )
@@ -192,7 +192,8 @@ def test_the_status(capsys, found, left, status):
     player = Scripted(*found)
     player.left = left
     got, _, error = checked(capsys, player, "--count", "20")
-    assert got == status and error == [f"makhloeum check: /dir: {path} could not be removed" for path in left]
+    shown = [path.replace("\x1b", "\\x1b").replace("\n", "\\n") for path in left]
+    assert got == status and error == [f"makhloeum check: /dir: {path} could not be removed" for path in shown]
 
 
 class Terminal:

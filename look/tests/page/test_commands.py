@@ -216,6 +216,27 @@ def test_names_do_not_move_the_cursor(tmp_path):
     groups(tmp_path, {"": {"cgroup.procs": ""}, "\x1b[31mred\n": {"cgroup.procs": ""}})
     status, said, _ = run("tree", str(tmp_path))
     assert status == 0 and "\\x1b[31mred\\n" in said and said.count("\n") == 2
+    trace, shown = tmp_path / "\x1b[31mred\r", f"{tmp_path}/\\x1b[31mred\\r"
+    trace.write_text("mkdir /a\n")
+    assert run("view", str(trace)) == (0, f"{shown}.html: 1 commands, 0 refused\n", "")
+    said = f"makhloeum view: the page would replace the trace {shown}\n"
+    assert run("view", str(trace), "-o", str(trace)) == (2, "", said)
+    assert run("view", f"{trace}\xfc") == (1, "", f"makhloeum view: {shown}\xfc: No such file or directory\n")
+    trace.write_text("none\n")
+    assert run("view", str(trace)) == (1, "", f"makhloeum view: no line of {shown} is a command\n")
+    assert run("check", str(trace)) == (2, "", f"makhloeum check: {shown}: it is not a directory\n")
+    why = "is not a cgroup2 directory: Not a directory"
+    assert run("tree", str(trace)) == (2, "", f"makhloeum tree: {shown} {why}\n")
+
+
+@pytest.mark.parametrize("name, said", [("view", ":"), ("tree", " is not a cgroup2 directory:"), ("check", ":")])
+def test_an_empty_path_is_not_the_current_directory(tmp_path, name, said):
+    groups(tmp_path, SMALL)
+    ran = subprocess.run(
+        [sys.executable, "-m", "makhloeum", name, ""], capture_output=True, text=True, cwd=tmp_path, env=WORDS
+    )
+    wanted = (1 if name == "view" else 2, "", f"makhloeum {name}: {said} No such file or directory\n")
+    assert (ran.returncode, ran.stdout, ran.stderr) == wanted
 
 
 def test_colour_is_for_a_terminal(tmp_path):
