@@ -8,6 +8,7 @@
 #include <makhloeum.h>
 #include <stdio.h>
 #include <string.h>
+#include <sys/auxv.h>
 #include <unistd.h>
 
 static const char help[] =
@@ -164,13 +165,33 @@ static void find_folder(char *folder, size_t size)
 		*slash = 0;
 }
 
+/* Removes the last name of a path. Returns whether it had one: "." and ".." name another folder. */
+static bool cut_name(char *path)
+{
+	char *slash = strrchr(path, '/');
+	if (!slash || strcmp(slash, "/") == 0 || strcmp(slash, "/.") == 0 || strcmp(slash, "/..") == 0)
+		return false;
+	*slash = 0;
+	return true;
+}
+
+/* The prefix by the path that started this program: its bin may be a link to a folder elsewhere. Returns whether the path names it. */
+static bool find_prefix(char *prefix, size_t size)
+{
+	const char *path = (const char *)getauxval(AT_EXECFN);
+	if (!path)
+		return false;
+	snprintf(prefix, size, "%s%s", path[0] == '/' ? "" : "./", path);
+	return cut_name(prefix) && cut_name(prefix);
+}
+
 /* Replaces this process by makhloeum-NAME; words[0] is NAME and the others are its arguments. It looks in the folders of
-   this installation (libexec/makhloeum beside the folder of this program, and that folder), then on PATH. It returns only
-   if there is no such program, with the status, after an error message. */
+   this installation (libexec/makhloeum beside the folder of this program, that folder, and libexec/makhloeum beside a link to it),
+   then on PATH. It returns only if there is no such program, with the status, after an error message. */
 static int subcommand_start(char **words)
 {
 	static const char *const places[] = { "/../libexec/makhloeum/", "/" };
-	char folder[PATH_MAX], file[PATH_MAX + 4 * NAME_MOST], program[2 * NAME_MOST];
+	char folder[PATH_MAX], prefix[PATH_MAX + 2], file[PATH_MAX + 4 * NAME_MOST], program[2 * NAME_MOST];
 	const char *name = words[0];
 	if (!is_name(name)) {
 		say("'%s' is not a command; makhloeum --help lists them", name);
@@ -182,6 +203,10 @@ static int subcommand_start(char **words)
 	/* execv returns only if it fails: then the next place is tried. */
 	for (size_t i = 0; i < sizeof places / sizeof *places && folder[0]; i++) {
 		snprintf(file, sizeof file, "%s%s%s", folder, places[i], program);
+		execv(file, words);
+	}
+	if (find_prefix(prefix, sizeof prefix)) {
+		snprintf(file, sizeof file, "%s/libexec/makhloeum/%s", prefix, program);
 		execv(file, words);
 	}
 	int fault = execute(program, words);

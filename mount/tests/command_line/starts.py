@@ -508,7 +508,32 @@ def commands():
     link = os.path.join(top, "link")
     os.symlink(program, link)
     same("by a link", ran("hello", program=link, env=environment)[0], 4)
+    prefix = os.path.join(top, "prefix")
+    beside = os.path.join(prefix, "libexec", "makhloeum")
+    os.makedirs(beside)
+    put(beside, says("beside", 6))
+    os.symlink(bin_of, os.path.join(prefix, "bin"))
+    by_link = os.path.join(prefix, "bin", "makhloeum")
+    same("its own folder comes before that of a linked bin", ran("hello", program=by_link, env=environment)[0], 4)
     os.unlink(os.path.join(bin_of, "makhloeum-hello"))
+    for at, program_of in (
+        (prefix, by_link),
+        (prefix, "bin/makhloeum"),
+        (prefix, "./bin/makhloeum"),
+        (beside, "../../bin/makhloeum"),
+    ):
+        got = ran("hello", "a b", program=program_of, env=environment, cwd=at)
+        same("bin is a link: %s" % program_of, got, (6, "beside a b\n", ""))
+    for below in ("libexec/makhloeum", "x/libexec/makhloeum"):
+        os.makedirs(os.path.join(bin_of, below))
+        put(os.path.join(bin_of, below), says("below", 7))
+    for at, program_of in (
+        (bin_of, program),
+        (bin_of, "./makhloeum"),
+        (bin_of, "x/../makhloeum"),
+        (prefix, "bin//makhloeum"),
+    ):
+        same("no name of bin: %s" % program_of, ran("hello", program=program_of, env=environment, cwd=at)[0], 3)
     put(path, says("path", 3), 0o644)
     status, _, said = ran("hello", program=program, env=environment)
     same(
