@@ -9,7 +9,7 @@ import time
 from typing import Any, Callable
 
 from ._library import DONE, TIMED_OUT, waiting
-from ._words import _integer, _raise
+from ._words import _integer, _number, _raise
 
 # The interpreter handles signals between two waits: Ctrl-C ends a wait after at most this number of seconds.
 _SLICE = 0.1
@@ -18,6 +18,8 @@ _SLICE = 0.1
 def _seconds(timeout: Any) -> float:
     if isinstance(timeout, bool) or not isinstance(timeout, numbers.Real):
         raise TypeError(f"wait: a timeout is a number of seconds or None, not {type(timeout).__name__}")
+    if timeout <= 0:  # also one that no float is as far below
+        return 0.0
     if math.isnan(timeout):
         raise ValueError("wait: a timeout is a number of seconds, not nan")
     return float(timeout)
@@ -36,8 +38,9 @@ class Changes:
     def wait(self, seen: int, timeout: float | None = None) -> int:
         """Waits until changes() is another number than `seen`, and returns it. Other threads can make calls meanwhile.
 
-        `timeout` is a number of seconds, None for no end. Raises TimeoutError after that time, ValueError when the hierarchy is closed,
-        and the exception of a signal's handler, as KeyboardInterrupt, within a tenth of a second."""
+        `timeout` is a number of seconds, None for no end. Raises TimeoutError after that time, OverflowError if no float is as large,
+        ValueError when the hierarchy is closed, and the exception of a signal's handler, as KeyboardInterrupt, within a tenth of a
+        second."""
         seen = _integer(seen, "a number of changes")
         if not 0 <= seen < 1 << 64:
             raise ValueError(f"wait: {seen} is not a number of changes")
@@ -51,4 +54,4 @@ class Changes:
             if status != TIMED_OUT:
                 _raise(status, "wait")
             if end is not None and time.monotonic() >= end:
-                raise TimeoutError(f"wait: nothing has changed in {timeout} seconds")
+                raise TimeoutError(f"wait: nothing has changed in {_number(timeout)} seconds")

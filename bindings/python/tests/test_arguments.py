@@ -4,6 +4,7 @@ import enum
 import errno
 import math
 import threading
+from fractions import Fraction
 
 import pytest
 
@@ -110,6 +111,23 @@ def test_a_timeout_is_a_number_of_seconds(h):
     with pytest.raises(ValueError, match="nan"):
         h.wait(1, timeout=math.nan)
     assert h.wait(1, timeout=math.inf) == 2
+
+
+def test_a_timeout_beyond_each_float_is_refused_as_by_an_event(h):
+    for timeout in (10**400, 10**5000):
+        for wait in (threading.Event().wait, lambda timeout: h.wait(2, timeout)):
+            with pytest.raises(OverflowError):
+                wait(timeout)
+    with pytest.raises(OverflowError):
+        h.wait(2, timeout=Fraction(10**400))
+
+
+def test_a_time_that_is_long_over_ends_at_once_as_that_of_an_event(h):
+    for timeout in (-(10**400), -(10**5000), Fraction(-(10**400)), -1e300, -math.inf):
+        assert threading.Event().wait(timeout) is False
+        with pytest.raises(TimeoutError, match="nothing has changed"):
+            h.wait(2, timeout=timeout)
+        assert h.wait(1, timeout=timeout) == 2
 
 
 def test_a_timeout_of_zero_ends_at_once(h):

@@ -71,7 +71,7 @@ RAISED = {
     "undo": [((), "NothingToUndo")],
     "undo_to": [((99,), "NothingToUndo"), ((-1,), "ValueError")],
     "vanish": [(("/",), "ValueError"), (("c",), "BadPath"), (("/a", 0), "ValueError")],
-    "wait": [((6, 0), "TimeoutError"), ((0,), "ValueError")],
+    "wait": [((6, 0), "TimeoutError"), ((6, 10**400), "OverflowError"), ((0,), "ValueError")],
     "where": [((7,), "NoProcess"), ((0,), "BadValue")],
     "write": [
         *((("/c", "pids.max", 1), "NoGroup"), (("/a", "x", 1), "BadFile"), (("/", "pids.max", 1), "NoFile")),
@@ -156,7 +156,7 @@ def test_what_a_method_raises_is_named(hierarchy, name):
     for words, wanted, *more in RAISED[name]:
         if name == "wait" and wanted == "ValueError":
             h.close()
-        with pytest.raises((OSError, ValueError, TypeError)) as raised:
+        with pytest.raises((OSError, ValueError, TypeError, OverflowError)) as raised:
             getattr(h, name)(*words, **(more[0] if more else {}))
         assert wanted in [it.__name__ for it in type(raised.value).__mro__], (words, raised.value)
         above = Hierarchy.__doc__ if wanted in ("BadPath", "TypeError") else ""
