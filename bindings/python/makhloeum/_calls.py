@@ -278,7 +278,7 @@ class Calls(DescriptorCalls):
             try:
                 return self.was["open"](file, mode, buffering, encoding, errors, newline, closefd, asked)
             except _IsServed as it:
-                raw = Shared(self.descriptors, it.args[0], True, os.fspath(file), mode)
+                raw = self._over_served(it.args[0], os.fspath(file), mode)
                 return _over(raw, mode, buffering, encoding, errors, newline)
         _check(mode, buffering, encoding, errors, newline)
         if not closefd and not isinstance(file, int):
@@ -287,12 +287,36 @@ class Calls(DescriptorCalls):
             fd = opener(os.fspath(file), _flags(mode))
             if not isinstance(fd, int):
                 raise TypeError("expected integer from opener")
+            if fd < 0:
+                raise ValueError(f"opener returned {fd}")
             if self.descriptors.get(fd) is None:
-                return self.was["open"](fd, mode, buffering, encoding, errors, newline)
-            raw = Shared(self.descriptors, fd, True, os.fspath(file), mode)
+                return self._over_real(fd, os.fspath(file), mode, buffering, encoding, errors, newline)
+            raw = self._over_served(fd, os.fspath(file), mode)
         else:
             raw = self._file(file, node, mode, closefd)
         return _over(raw, mode, buffering, encoding, errors, newline)
+
+    def _over_served(self, fd: int, name: Any, mode: str) -> Shared:
+        """The file object without a buffer of a served descriptor, which an opener returned."""
+        opened = self.descriptors.get(fd)
+        if isinstance(opened, Node):
+            self.descriptors.close(fd)
+            raise error(errno.EISDIR if opened.file is None else errno.EBADF, name)
+        return Shared(self.descriptors, fd, True, name, mode)
+
+    def _over_real(self, fd: int, name: Any, *words: Any) -> Any:
+        """The file object of a real descriptor, which an opener returned for a served name."""
+        try:
+            file = self.was["open"](fd, *words)
+        except OSError as failure:
+            if failure.filename == fd:
+                failure.filename = name
+            with contextlib.suppress(OSError):
+                self.was["close"](fd)
+            raise
+        buffered = getattr(file, "buffer", file)
+        getattr(buffered, "raw", buffered).name = name
+        return file
 
     def _asking(self, opener: Callable[..., Any]) -> Callable[..., Any]:
         """The opener of a real file, which may return the descriptor of a served one."""

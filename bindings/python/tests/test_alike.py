@@ -108,6 +108,43 @@ def test_an_opener_returns_a_descriptor(h, real, found, kind):
             open(given, opener=lambda path, flags: found)
 
 
+@pytest.mark.parametrize(
+    "mode, buffering", [*((mode, -1) for mode in ("r", "w", "a", "x", "r+", "rb", "wb", "a+b")), ("rb", 0), ("ab", 0)]
+)
+def test_an_opener_of_a_served_name_may_find_a_real_file(h, real, mode, buffering):
+    """The file object has the name that was given; so has the error."""
+
+    def elsewhere(path, flags):
+        return os.open(f"{real}/a/pids.max", flags & ~(os.O_EXCL | os.O_TRUNC))
+
+    found = []
+    for given in (f"{AT}/a/pids.max", f"{AT}/none", f"{real}/a/pids.max", os.fsencode(f"{AT}/a")):
+        with open(given, mode, buffering, opener=elsewhere) as file:
+            raw = file if buffering == 0 else file.buffer.raw if "b" not in mode else file.raw
+            assert isinstance(raw, io.FileIO) and raw.closefd and file.name == raw.name == given
+            found.append((type(file), file.mode, file.tell(), file.readable() and file.read()))
+            number = file.fileno()
+        assert file.closed and code(os.fstat, number) == "EBADF"
+    assert found == found[:1] * len(found)
+
+
+def test_an_opener_may_find_no_file(h, real):
+    for given in (f"{AT}/a/pids.max", f"{AT}/none", os.fsencode(f"{AT}/a"), f"{real}/a/pids.max", f"{real}/none"):
+        for folder in (real, f"{AT}/a"):
+            for found in (os.O_RDONLY, os.O_PATH):
+                fds = []
+
+                def opener(path, flags):
+                    fds.append(os.open(folder, found))
+                    return fds[-1]
+
+                assert told(open, given, opener=opener) == ("EISDIR", given), folder
+                assert code(os.fstat, fds[0]) == "EBADF"  # it was closed
+                assert told(open, given, opener=lambda path, flags: fds[0]) == ("EBADF", None)
+        with pytest.raises(ValueError, match="^opener returned -5$"):
+            open(given, opener=lambda path, flags: -5)
+
+
 def outcome(call, *words):
     """What a call returns, or the class and the errno of its error."""
     try:
