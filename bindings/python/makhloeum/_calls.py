@@ -18,10 +18,10 @@ from typing import Any, Callable, Iterator
 
 from . import _audit, _names
 from ._descriptors import Shared
-from ._fd_calls import DescriptorCalls
-from ._replace import Place, Replacement, in_place
+from ._fd_calls import NO_DESCRIPTOR, REAL, DescriptorCalls, check_others
+from ._replace import Place, Replacement, in_place, nameless
 from ._table import TEXT_MAX
-from ._tree import Node, RawFile, Tree, error
+from ._tree import POSITION_MAX, Node, RawFile, Tree, error
 
 _SERVED = (
     *(
@@ -42,9 +42,11 @@ _SERVED = (
     *("fstat", "stat", "lstat", "access", "listdir", "scandir", "mkdir", "rmdir", "symlink", "readlink", "truncate"),
     *("ftruncate",),
 )
+# Functions that take a descriptor of O_PATH, too, and are refused for each.
+_OF_WHAT_IS_NAMED = ("chdir", "fchdir", "chroot", "statvfs", "fstatvfs", "pathconf", "fpathconf")
 _REFUSED = {
     **dict.fromkeys(("getxattr", "setxattr", "listxattr", "removexattr"), errno.EOPNOTSUPP),
-    **dict.fromkeys(("chdir", "fchdir", "chroot", "statvfs", "fstatvfs", "pathconf", "fpathconf"), errno.EOPNOTSUPP),
+    **dict.fromkeys(_OF_WHAT_IS_NAMED, errno.EOPNOTSUPP),
 }
 _WITHOUT_EFFECT = ("chmod", "lchmod", "fchmod", "chown", "lchown", "fchown", "utime")
 _OF_TWO_NAMES = {"rename": _names.rename, "replace": _names.rename, "link": _names.link}
@@ -52,17 +54,11 @@ _SYNCS = ("fsync", "fdatasync")
 # Functions that take a file object for its descriptor, too.
 _OF_FILES = (*_SYNCS, "fchdir")
 _OF_DESCRIPTORS = (*_OF_FILES, "fchmod", "fchown", "fstatvfs", "fpathconf")
-_NO_DESCRIPTOR = (1 << 31) - 1
 _OF_A_NAME: dict[str, Callable[..., None]] = {
     "unlink": _names.unlink,
     "remove": _names.unlink,
     "mkfifo": _names.mkfifo,
     "mknod": _names.mknod,
-}
-_REAL = {
-    name: getattr(os, name)
-    for name in ("mkdir", *_REFUSED, *_WITHOUT_EFFECT, *_SYNCS, *_OF_A_NAME)
-    if hasattr(os, name)
 }
 # Functions that take a symbolic link for itself.
 _OF_LINKS = (*_OF_TWO_NAMES, *_OF_A_NAME, "lchmod", "lchown")
@@ -200,7 +196,7 @@ class Calls(DescriptorCalls):
         if isinstance(path, int):
             opened = self.descriptors.get(path)
             return opened.node if isinstance(opened, RawFile) else opened
-        if not isinstance(path, (str, bytes, os.PathLike)):
+        if not isinstance(path, (str, bytes, os.PathLike)) or not (dir_fd is None or hasattr(dir_fd, "__index__")):
             return None  # the real function takes it, or says what is wrong with it
         shown = os.fsdecode(path)
         if "\0" in shown:
@@ -228,6 +224,10 @@ class Calls(DescriptorCalls):
                 return None  # the working directory was removed
             name = os.path.join(above, name)
         return self._found(name, shown)
+
+    def named(self, path: Any, dir_fd: int | None = None, follows: bool = True) -> Node | None:
+        """The node of a path, for a function that takes no descriptor in its place."""
+        return None if isinstance(path, int) else self.node(path, dir_fd, follows)
 
     def _found(self, name: str, shown: str) -> Node | None:
         below = self._below(self._without_dots(name, shown))
@@ -330,24 +330,31 @@ class Calls(DescriptorCalls):
         return asked
 
     def _file(self, file: Any, node: Node, mode: str, closefd: bool) -> Shared:
-        if isinstance(file, int):
+        if isinstance(file, int) and node.file is not None:
             return Shared(self.descriptors, file, closefd, file, mode)
-        raw = self._opened(node, _flags(mode))
+        raw = node if isinstance(file, int) else self._opened(node, _flags(mode))
         if isinstance(raw, Node):
             raise error(errno.EISDIR, node.shown)
         return Shared(self.descriptors, self.descriptors.add(raw), True, os.fspath(file), mode)
 
     def _opened(self, node: Node, flags: int) -> Node | RawFile:
         node = _names.open_node(node, flags)
-        if node.file is None or flags & os.O_PATH:
+        node.only_named = bool(flags & os.O_PATH)
+        if node.file is None or node.only_named:
             return node
-        way = flags & os.O_ACCMODE
-        return RawFile(node, way != os.O_WRONLY, way != os.O_RDONLY, bool(flags & os.O_APPEND))
+        way = flags & os.O_ACCMODE  # a fourth one is for neither reading nor writing
+        reads, writes = way in (os.O_RDONLY, os.O_RDWR), way in (os.O_WRONLY, os.O_RDWR)
+        return RawFile(node, reads, writes, bool(flags & os.O_APPEND))
 
     def os_open(self, path: Any, flags: int, mode: int = 0o777, *, dir_fd: int | None = None) -> Any:
-        node = self.node(path, dir_fd)
+        try:
+            node = self.named(path, dir_fd)
+        except OSError as failure:
+            _check_flags(flags, mode, dir_fd, failure.filename)
+            raise
         if node is None:
             return self.was["os_open"](path, flags, mode, dir_fd=dir_fd)
+        _check_flags(flags, mode, dir_fd, node.shown)
         return self.descriptors.add(self._opened(node, flags))
 
     # ---- descriptors, besides those of DescriptorCalls
@@ -359,22 +366,23 @@ class Calls(DescriptorCalls):
     # ---- paths
 
     def stat(self, path: Any, *, dir_fd: int | None = None, follow_symlinks: bool = True) -> Any:
-        node = self.node(path, dir_fd, follow_symlinks)
+        alone = dir_fd is None and follow_symlinks  # as a descriptor has to be
+        node = self.node(path, dir_fd, follow_symlinks) if alone or not isinstance(path, int) else None
         return self.was["stat"](path, dir_fd=dir_fd, follow_symlinks=follow_symlinks) if node is None else node.stat()
 
     def lstat(self, path: Any, *, dir_fd: int | None = None) -> Any:
-        node = self.node(path, dir_fd, False)
+        node = self.named(path, dir_fd, False)
         return self.was["lstat"](path, dir_fd=dir_fd) if node is None else node.stat()
 
     def access(self, path: Any, mode: int, *, dir_fd: int | None = None, **more: Any) -> Any:
-        try:
-            node = self.node(path, dir_fd)
+        allowed: int | None = None
+        with contextlib.suppress(OSError):
+            node = self.named(path, dir_fd)
             if node is None:
                 return self.was["access"](path, mode, dir_fd=dir_fd, **more)
             allowed = node.stat().st_mode >> 6 & 7
-        except OSError:
-            return False
-        return mode & ~(allowed | (6 if os.geteuid() == 0 else 0)) == 0
+        check_others("access", "", mode, dir_fd=dir_fd, **more)
+        return allowed is not None and operator.index(mode) & ~(allowed | (6 if os.geteuid() == 0 else 0)) == 0
 
     def listdir(self, path: Any = ".") -> Any:
         node = self.node("." if path is None else path)
@@ -398,22 +406,22 @@ class Calls(DescriptorCalls):
         return _Scan(entries)
 
     def mkdir(self, path: Any, mode: int = 0o777, *, dir_fd: int | None = None) -> Any:
-        node = self.node(path, dir_fd, False)
+        node = self.named(path, dir_fd, False)
         if node is None:
             return self.was["mkdir"](path, mode, dir_fd=dir_fd)
-        _check_others("mkdir", (path, mode), {})
+        check_others("mkdir", "", mode)
         _names.mkdir(node)
 
     def rmdir(self, path: Any, *, dir_fd: int | None = None) -> Any:
-        node = self.node(path, dir_fd, False)
+        node = self.named(path, dir_fd, False)
         if node is None:
             return self.was["rmdir"](path, dir_fd=dir_fd)
         _names.rmdir(node)
 
     def readlink(self, path: Any, *, dir_fd: int | None = None) -> Any:
-        node = self.node(path, dir_fd, False)
+        node = self.named(path, dir_fd, False)
         if node is None:
-            linked = self.node(path, dir_fd)
+            linked = self.named(path, dir_fd)
             if linked is not None:
                 return _as(path, self._at(linked.tree) + linked.path.rstrip("/"))[0]
             return self.was["readlink"](path, dir_fd=dir_fd)
@@ -422,8 +430,8 @@ class Calls(DescriptorCalls):
 
     def truncate(self, path: Any, length: int) -> Any:
         if isinstance(path, int):
-            return self.ftruncate(path, length)
-        if length < 0:  # before any name is looked up
+            return nameless(self.ftruncate, path, length)
+        if _is_refused(length):  # before any name is looked up
             raise error(errno.EINVAL, os.fsdecode(path))
         node = self.node(path)
         if node is None:
@@ -439,7 +447,10 @@ class Calls(DescriptorCalls):
         opened = self.descriptors.get(fd)
         if opened is None:
             return self.was["ftruncate"](fd, length)
-        if length < 0 or isinstance(opened, Node) or not opened.writable():
+        is_refused = _is_refused(length)
+        if not is_refused and isinstance(opened, Node) and opened.only_named:
+            raise error(errno.EBADF, str(fd))
+        if is_refused or isinstance(opened, Node) or not opened.writable():
             raise error(errno.EINVAL, str(fd))
 
     def other(self, name: str) -> Callable[..., Any]:
@@ -453,7 +464,9 @@ class Calls(DescriptorCalls):
             node = None if is_wrong else self.node(given, more.get("dir_fd"), name not in _OF_LINKS)
             if node is None:
                 return self.was[name](*words, **more)
-            _check_others(name, words, more)
+            _check_others(name, given, words, more)
+            if node.only_named and name not in _OF_WHAT_IS_NAMED:
+                raise error(errno.EBADF, str(given))
             if name in _OF_A_NAME:
                 kind = [*words[1:2], *(more[key] for key in ("mode",) if key in more)] if name == "mknod" else []
                 return _OF_A_NAME[name](node, *kind)
@@ -470,7 +483,7 @@ class Calls(DescriptorCalls):
         def call(
             src: Any, dst: Any, *, src_dir_fd: int | None = None, dst_dir_fd: int | None = None, **more: Any
         ) -> Any:
-            node = self.node(src, src_dir_fd, False)
+            node = self.named(src, src_dir_fd, False)
             if node is not None:  # before the other path is looked at
                 node.check() if name == "link" else _names.enter_parent(node)
 
@@ -478,7 +491,7 @@ class Calls(DescriptorCalls):
                 self.was["lstat"](src if name == "link" else os.path.dirname(src) or os.curdir, dir_fd=src_dir_fd)
 
             try:
-                to = self.node(dst, dst_dir_fd, False)
+                to = self.named(dst, dst_dir_fd, False)
             except OSError:
                 if node is None:
                     look_at_first()
@@ -495,20 +508,36 @@ class Calls(DescriptorCalls):
 
     def symlink(self, src: Any, dst: Any, target_is_directory: bool = False, *, dir_fd: int | None = None) -> Any:
         """A link from elsewhere would not be followed."""
-        node = self.node(dst, dir_fd, False)
-        if node is None and self._covers(os.fsdecode(src)):
+        node, text = self.named(dst, dir_fd, False), os.fsdecode(src)
+        if node is None and self._covers(text):
             raise error(errno.EPERM, os.fsdecode(dst))
         if node is None:
             return self.was["symlink"](src, dst, target_is_directory, dir_fd=dir_fd)
         return _names.symlink(node)
 
 
-def _check_others(name: str, words: tuple[Any, ...], more: dict[str, Any]) -> None:
-    """Raises what is wrong with the other arguments: the real function says so before it finds that this path or descriptor is none."""
-    none = _NO_DESCRIPTOR if name in _OF_DESCRIPTORS else ""
+def _check_others(name: str, given: Any, words: tuple[Any, ...], more: dict[str, Any]) -> None:
+    """Raises what is wrong with the arguments besides the path or descriptor that is given."""
+    none = NO_DESCRIPTOR if isinstance(given, int) else ""
     others = {key: none if key in ("path", "fd") else value for key, value in more.items()}
-    with contextlib.suppress(OSError):
-        _REAL[name](*(none, *words[1:])[: len(words)], **others)
+    check_others(name, *(none, *words[1:])[: len(words)], **others)
+
+
+def _is_refused(length: int) -> bool:
+    """Whether no file can be cut to that length. Raises what the real function raises for what is no length at all."""
+    if not 0 <= operator.index(length) <= POSITION_MAX:
+        check_others("ftruncate", NO_DESCRIPTOR, length)
+        return True
+    return False
+
+
+def _check_flags(flags: int, mode: int, dir_fd: int | None, shown: Any) -> None:
+    """Raises what the kernel says of the flags of an open before it looks at the path, which is not the empty one."""
+    try:
+        REAL["open"]("", flags, mode, dir_fd=dir_fd)
+    except OSError as failure:
+        if failure.errno == errno.EINVAL:
+            raise error(errno.EINVAL, shown) from None
 
 
 def _in_removed(base: Node, name: str, shown: str) -> Node:

@@ -81,10 +81,20 @@ class Descriptors:
                 _real_dup2(number, fd, os.get_inheritable(fd))
                 _real_close(number)
 
+    def check(self, fd: int, writes: bool = False) -> None:
+        """Raises EBADF unless the descriptor was opened for that. No group is open for writing."""
+        opened = self._opened[fd]
+        if isinstance(opened, Node):
+            allowed = not writes and not opened.only_named
+        else:
+            allowed = opened.writable() if writes else opened.readable()
+        if not allowed:
+            raise error(errno.EBADF, str(fd))
+
     def raw(self, fd: int, writes: bool = False) -> RawFile:
         opened = self._opened[fd]
-        if isinstance(opened, Node):  # no group is open for writing
-            raise error(errno.EBADF if writes or opened.file is not None else errno.EISDIR, opened.shown)
+        if isinstance(opened, Node):
+            raise error(errno.EBADF if writes or opened.only_named else errno.EISDIR, opened.shown)
         return opened
 
 

@@ -117,8 +117,6 @@ def open_node(node: Node, flags: int) -> Node:
         flags &= os.O_PATH | os.O_DIRECTORY
     way = flags & os.O_ACCMODE
     writes = way != os.O_RDONLY or flags & os.O_TRUNC
-    if flags & os.O_CREAT and flags & os.O_DIRECTORY:
-        raise error(errno.EINVAL, node.shown)
     if node.gone and node.file is not None and not flags & os.O_PATH:
         raise error(errno.ENODEV, node.shown)
     if flags & os.O_CREAT and not node.gone:

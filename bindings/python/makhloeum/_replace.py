@@ -17,7 +17,7 @@ _OF_TWO_PATHS = ("rename", "replace", "link", "symlink")
 _NAMELESS = (
     *("read", "write", "readv", "writev", "pread", "pwrite", "preadv", "pwritev", "lseek", "dup", "dup2", "close"),
     *("fstat", "ftruncate", "fsync", "fdatasync", "fchdir", "fchmod", "fchown", "fstatvfs", "fpathconf"),
-    *("mkfifo", "mknod"),
+    *("mkfifo", "mknod", "utime"),
 )
 
 

@@ -21,6 +21,7 @@ from ._words import _c_text, _raise
 from .errors import BadPath, NoGroup, PathTooLong
 from .hierarchy import Hierarchy
 
+POSITION_MAX = (1 << 63) - 1  # of a file, in bytes
 _DEVICE = 0x6D6B0000  # to which the number of the hierarchy is added
 _BORN = time.time_ns()
 _TIMES = (_BORN // 10**9,) * 3
@@ -47,11 +48,13 @@ def error(number: int, path: str) -> OSError:
 
 class Node:
     """A group, or a file of a group, that may not be there. `last` is the last name of the path, which can be `.` or `..`, and
-    `is_folder` says that a slash is after it. Of a descriptor, `gone` says that the group was removed."""
+    `is_folder` says that a slash is after it. Of a descriptor, `gone` says that the group was removed, and `only_named` that it was
+    opened with O_PATH."""
 
     last = ""
     is_folder = False
     gone = False
+    only_named = False
     position = 0
 
     def __init__(self, tree: Tree, group: str, file: Any, shown: str) -> None:
@@ -105,16 +108,24 @@ class Node:
         if self.file is not None:
             self.check()
             raise error(errno.ENOTDIR, self.shown)
+        if self.only_named:
+            raise error(errno.EBADF, self.shown)
         if self.gone:
             return []
         return [name for name, file in FILES.items() if file.on_root or self.group != "/"] + self.children()
 
     def seek(self, offset: int, whence: int = os.SEEK_SET) -> int:
-        """Of a file the end is that of its text; of a group it is 0, and each listing begins at the first name."""
-        end = self.stat().st_size if whence == os.SEEK_END else 0
+        """Of a file the end is that of its text, which has no holes; of a group it is 0, and each listing begins at the first name."""
+        offset = operator.index(offset)
+        end = self.stat().st_size if whence in (os.SEEK_END, os.SEEK_DATA, os.SEEK_HOLE) else 0
+        if whence in (os.SEEK_DATA, os.SEEK_HOLE):
+            if not 0 <= offset < end:
+                raise error(errno.ENXIO, self.shown)
+            self.position = offset if whence == os.SEEK_DATA else end
+            return self.position
         bases = {os.SEEK_SET: 0, os.SEEK_CUR: self.position, os.SEEK_END: end}
-        position = operator.index(offset) + bases.get(whence, 0)
-        if position < 0 or whence not in bases:
+        position = offset + bases.get(whence, 0)
+        if not 0 <= position <= POSITION_MAX or whence not in bases:
             raise error(errno.EINVAL, self.shown)
         self.position = position
         return position

@@ -83,6 +83,10 @@ FLAGS = (
         os.O_RDONLY | os.O_PATH,
         os.O_RDONLY | os.O_DIRECT,
         os.O_RDWR | os.O_DIRECTORY,
+        os.O_ACCMODE,
+        os.O_ACCMODE | os.O_TMPFILE,
+        os.O_RDONLY | os.O_TMPFILE,
+        os.O_RDWR | os.O_TMPFILE & ~os.O_DIRECTORY,
     ),
 )
 OPEN_MODES = ("r", "w", "a", "x", "r+", "w+", "rb", "wb")
@@ -135,6 +139,10 @@ class Player:
     def scandir(self, path: str) -> Any:
         with os.scandir(self._path(path)) as entries:
             return sorted((it.name, it.is_dir(), it.is_file(), it.is_symlink(), described(it.stat())) for it in entries)
+
+    def entries(self, path: str) -> Any:
+        with os.scandir(self._path(path)) as entries:
+            return {isinstance(it, os.DirEntry) for it in entries}
 
     def stat(self, path: str) -> Any:
         return described(os.stat(self._path(path)))
@@ -311,6 +319,10 @@ class Drawing:
             ),
             *(("lseek", 0, 0), ("lseek", 2, 1), ("lseek", -1, 0), ("lseek", 0, 2), ("ftruncate", 1), ("ftruncate", -1)),
             *(("fstat",), ("stat",), ("listdir",), ("fsync",), ("truncate", 1), ("fchmod", 0o644), ("utime",)),
+            *(("lseek", pick.randrange(6), whence) for whence in (os.SEEK_DATA, os.SEEK_HOLE)),
+            *(("pwritev", [self.value(), b""], offset) for offset in (-2, -1, 0)),
+            *(("preadv", [bytearray(2), bytearray(2)], offset) for offset in (-2, -1, 0)),
+            *(("readv", [bytearray(1)] * count) for count in (0, 3, 1025)),
         ]
         below: list[tuple[Any, ...]] = [
             *(("mkdir", relative), ("rmdir", relative), ("stat", relative), ("open", relative, os.O_RDONLY)),
@@ -322,6 +334,7 @@ class Drawing:
             (1, lambda: ("makedirs", pick.choice(GROUPS))),
             (4, lambda: ("listdir", self.path())),
             (2, lambda: ("scandir", self.path())),
+            (1, lambda: ("entries", self.path())),
             (6, lambda: ("stat", self.path())),
             (2, lambda: ("lstat", self.path())),
             (4, lambda: ("access", self.path(), pick.randrange(8))),
@@ -346,7 +359,8 @@ class Drawing:
             (2, lambda: ("utime", self.path())),
             (1, lambda: ("rmtree", self.group())),
             (6, lambda: ("hold", slot, self.file(), pick.choice((os.O_RDONLY, os.O_RDWR, os.O_WRONLY)))),
-            (3, lambda: ("hold", slot, self.group(), os.O_RDONLY)),
+            (1, lambda: ("hold", slot, self.file(), pick.choice((os.O_ACCMODE, os.O_PATH)))),
+            (3, lambda: ("hold", slot, self.group(), pick.choice((os.O_RDONLY, os.O_RDONLY, os.O_PATH)))),
             (1, lambda: ("close", slot)),
             (14, lambda: ("by", slot, *pick.choice(by))),
             (6, lambda: ("below", slot, *pick.choice(below))),
@@ -428,16 +442,15 @@ def _leads_out_by_a_descriptor(calls: list[Call], real: Any, memory: Any) -> boo
     return calls[-1][0] == "below" and calls[-1][3].startswith("..") and memory == "ENOTDIR"
 
 
-def _path_and_flags(calls: list[Call], real: Any, memory: Any) -> bool:
-    refused = os.O_CREAT | os.O_DIRECTORY
-    return calls[-1][0] == "flags" and calls[-1][2] & refused == refused and real == "EINVAL"
+def _entries_of_another_type(calls: list[Call], real: Any, memory: Any) -> bool:
+    return calls[-1][0] == "entries" and (real, memory) == ({True}, {False})
 
 
 MAY_DIFFER: dict[str, Callable[[list[Call], Any, Any], bool]] = {
     "mounted_at shows no mode, owner or time that a program sets: an engine has none": _only_modes,
     "a listing by a descriptor has all names, wherever it was sought: the places of names are a file system's own": _begins_elsewhere,
     "`..` of the descriptor of the place names nothing: the descriptor is only a number": _leads_out_by_a_descriptor,
-    "os.open with O_CREAT and O_DIRECTORY: the kernel refuses the flags before it looks at the path": _path_and_flags,
+    "the entries of os.scandir are no os.DirEntry, which nobody but os can make": _entries_of_another_type,
 }
 
 

@@ -259,12 +259,14 @@ FLAGS = [
     os.O_RDWR | os.O_APPEND,
     os.O_RDONLY | os.O_NOFOLLOW | os.O_CLOEXEC,
     os.O_RDONLY | os.O_TRUNC,
+    *(os.O_ACCMODE | more for more in (0, os.O_TRUNC, os.O_CREAT, os.O_DIRECTORY, os.O_APPEND, os.O_PATH)),
+    *(os.O_TMPFILE, os.O_TMPFILE & ~os.O_DIRECTORY | os.O_RDWR, os.O_TMPFILE | os.O_PATH),
     *(os.O_PATH | more for more in (0, os.O_WRONLY, os.O_RDWR | os.O_TRUNC, os.O_CREAT | os.O_EXCL, os.O_DIRECTORY)),
 ]
 
 
 @pytest.mark.parametrize("flags", FLAGS)
-@pytest.mark.parametrize("name", ["a/pids.max", "a", "a/pids.max/x", "b/pids.max"])
+@pytest.mark.parametrize("name", ["a/pids.max", "a", "a/pids.max/x", "b/pids.max", "none/../a"])
 def test_a_file_or_group_is_opened_as_a_real_one(h, real, name, flags):
     found = []
     for top in (AT, real):
@@ -296,6 +298,55 @@ def test_a_descriptor_that_only_names_a_file(h, real, flags):
             assert code(call, "x", dir_fd=fd) == code(call, "pids.max", dir_fd=fd) == "ENOTDIR", call
         os.close(fd)
     assert h.groups() == ["/", "/a"]
+
+
+# what is done by a descriptor; a mount refuses what only names a file, or is neither for reading nor for writing
+BY_DESCRIPTOR = [
+    *(("read", 9), ("pread", 9, 0), ("pread", 9, -1), ("write", b"1"), ("pwrite", b"1", 0), ("pwrite", b"1", -1)),
+    *(("readv", [bytearray(1)]), ("preadv", [bytearray(1)], 0), ("preadv", [bytearray(1)], -1), ("readv", [])),
+    *(("writev", [b"1"]), ("pwritev", [b"1"], 0), ("pwritev", [b"1"], -1), ("writev", [])),
+    *(("preadv", [bytearray(1)], -2), ("pwritev", [b"1"], -2), ("pwrite", b"1", -2), ("pread", 0, -1)),
+    *(("lseek", 0, os.SEEK_SET), ("lseek", 0, os.SEEK_CUR), ("lseek", -1, os.SEEK_SET), ("lseek", 0, os.SEEK_END)),
+    *(("ftruncate", 0), ("ftruncate", -1), ("truncate", 0), ("truncate", -1), ("fsync",), ("fdatasync",)),
+    *(("fchmod", 0o644), ("fchown", -1, -1), ("chmod", 0o644), ("chown", -1, -1), ("utime",), ("listdir",)),
+    *(("fstat",), ("stat",)),
+]
+
+
+@pytest.mark.parametrize("name, flags", [("a", os.O_PATH), ("a/pids.max", os.O_PATH), ("a/pids.max", os.O_ACCMODE)])
+@pytest.mark.parametrize("call, words", [(name, words) for name, *words in BY_DESCRIPTOR])
+def test_a_descriptor_for_neither_reading_nor_writing(h, real, call, words, name, flags):
+    found = []
+    for top in (AT, real):
+        fd = os.open(f"{top}/{name}", flags)
+        found.append(outcome(getattr(os, call), fd, *words))
+        os.close(fd)
+    assert found[0] == found[1] or isinstance(found[0], os.stat_result)
+    assert h.read("/a", "pids.max") == "max\n"
+
+
+def test_a_file_object_of_such_a_descriptor(h, real):
+    for top in (AT, real):
+        fd = os.open(f"{top}/a/pids.max", os.O_ACCMODE)
+        for mode in ("rb", "wb", "ab", "r+b"):
+            with open(fd, mode, buffering=0, closefd=False) as file:
+                call = file.read if file.readable() else lambda: file.write(b"1")
+                assert outcome(call) == ("OSError", errno.EBADF) and file.seek(1) == file.tell() == 1, top
+        os.close(fd)
+        for flags in (os.O_RDONLY, os.O_PATH):
+            fd = os.open(f"{top}/a", flags)
+            for mode in ("rb", "wb"):
+                assert told(open, fd, mode) == ("EISDIR", fd), top
+            os.close(fd)
+    assert h.limit("/a") is None
+
+
+@pytest.mark.parametrize("flags", [1 << 31, 1 << 70, "r", 0.5, None])
+@pytest.mark.parametrize("name", ["a", "none", "none/../a"])
+def test_flags_are_a_number(h, real, name, flags):
+    for top in (AT, real):
+        with pytest.raises((TypeError, OverflowError)):
+            os.open(f"{top}/{name}", flags)
 
 
 def test_only_the_kernels_own_files_can_be_made(h):
@@ -366,6 +417,96 @@ def test_bytes_from_each_place(h, real):
         assert os.lseek(fd, 0, os.SEEK_SET) == 0 and os.write(fd, b"12\n") == 3 and os.lseek(fd, 0, os.SEEK_CUR) == 3
         assert os.pwrite(fd, b"", 1) == 0 and os.lseek(fd, 0, os.SEEK_CUR) == 3
         os.close(fd)
+
+
+@pytest.mark.parametrize("name, flags", [("a/pids.max", os.O_RDWR), ("a", os.O_RDONLY), ("a", os.O_PATH)])
+@pytest.mark.parametrize("call", ["readv", "preadv", "writev", "pwritev"])
+def test_a_call_takes_1024_buffers(h, real, call, name, flags):
+    found = []
+    for top in (AT, real):
+        fd, results = os.open(f"{top}/{name}", flags), []
+        for count in (0, 1, 1023, 1024, 1025, 5000):
+            buffers = [bytearray(1) for _ in range(count)]
+            if "write" in call:
+                buffers = [b"5"][:count] + [b""] * (count - 1)
+            results.append((count, outcome(getattr(os, call), fd, buffers, *([0] if call[0] == "p" else []))))
+        found.append(results)
+        os.close(fd)
+    assert found[0] == found[1]
+
+
+@pytest.mark.parametrize("name", ["a/pids.max", "a"])
+@pytest.mark.parametrize("buffers", [None, b"5", ["5"], iter([b"5"]), {b"5"}, [b"5"], [None]])
+def test_buffers_are_a_sequence(h, real, buffers, name):
+    for call in ("readv", "preadv", "writev", "pwritev"):
+        found = []
+        for top in (AT, real):
+            fd = os.open(f"{top}/{name}", os.O_RDWR if name != "a" else os.O_RDONLY)
+            try:
+                found.append(outcome(getattr(os, call), fd, buffers, *([0] if call[0] == "p" else [])))
+            except BufferError:
+                found.append("BufferError")
+            os.close(fd)
+        assert found[0] == found[1], call
+
+
+def test_an_offset_of_minus_one_is_the_position_of_the_file(h, real):
+    for top in (AT, real):
+        fd, part = os.open(f"{top}/a/pids.max", os.O_RDWR), bytearray(2)
+        assert (os.preadv(fd, [part], -1), part, os.lseek(fd, 0, os.SEEK_CUR)) == (2, b"ma", 2)
+        assert (os.preadv(fd, [part], -1), part, os.lseek(fd, 0, os.SEEK_CUR)) == (2, b"x\n", 4)
+        assert os.lseek(fd, 0, os.SEEK_SET) == 0
+        assert (os.pwritev(fd, [b"1", b"2"], -1), os.lseek(fd, 0, os.SEEK_CUR)) == (2, 2)
+        for call, words in ((os.preadv, [[part]]), (os.pwritev, [[b"1"]]), (os.pread, [1]), (os.pwrite, [b"1"])):
+            for offset in (-2, -1 << 63, *([-1] if call in (os.pread, os.pwrite) else [])):
+                assert outcome(call, fd, *words, offset) == ("OSError", errno.EINVAL), (call, offset)
+            for offset in (1 << 63, -1 << 70, 0.5, "0", None):
+                assert outcome(call, fd, *words, offset)[0] in ("OverflowError", "TypeError"), (call, offset)
+        for call, words in ((os.preadv, [[part]]), (os.pwritev, [[b"11"]]), (os.pread, [2]), (os.pwrite, [b"11"])):
+            assert outcome(call, fd, *words, (1 << 63) - 1) == ("OSError", errno.EINVAL), call
+        assert os.lseek(fd, 0, os.SEEK_CUR) == 2
+        os.close(fd)
+    assert h.limit("/a") == 12
+
+
+@pytest.mark.parametrize("flags, errors", [(1 << 20, "OSError"), (1 << 70, "OverflowError"), ("x", "TypeError")])
+def test_flags_of_a_read_or_write(h, real, flags, errors):
+    for top in (AT, real):
+        fd = os.open(f"{top}/a/pids.max", os.O_RDWR)
+        for call, buffers in ((os.preadv, [bytearray(2)]), (os.pwritev, [b"5"])):
+            number = errno.EOPNOTSUPP if errors == "OSError" else None
+            assert outcome(call, fd, buffers, 0, flags) == (errors, number), (top, call)
+        os.close(fd)
+    assert h.limit("/a") is None
+
+
+@pytest.mark.parametrize("whence", [os.SEEK_SET, os.SEEK_CUR, os.SEEK_END, os.SEEK_DATA, os.SEEK_HOLE, 5, -1, 1 << 40])
+@pytest.mark.parametrize("offset", [0, 1, 3, 4, 5, 4096, -1, -5, 1 << 63, 1 << 70, -1 << 70, 0.5])
+def test_a_file_is_data_to_its_end(h, real, offset, whence):
+    found = []
+    for top in (AT, real):
+        fd = os.open(f"{top}/a/pids.max", os.O_RDWR)
+        os.lseek(fd, 1, os.SEEK_SET)
+        found.append((outcome(os.lseek, fd, offset, whence), os.lseek(fd, 0, os.SEEK_CUR)))
+        os.close(fd)
+    assert found[0] == found[1]
+
+
+@pytest.mark.parametrize("whence", [os.SEEK_CUR, os.SEEK_END])
+def test_a_position_does_not_overflow(h, real, whence):
+    for top in (AT, real):
+        with open(f"{top}/a/pids.max", "rb", buffering=0) as file:
+            assert file.seek(1) == 1 and outcome(file.seek, (1 << 63) - 1, whence) == ("OSError", errno.EINVAL)
+            assert file.tell() == 1
+
+
+def test_a_group_has_no_data(h):
+    """Measured on a mount."""
+    group = os.open(f"{AT}/a", os.O_RDONLY)
+    for offset in (0, 1, -1, 4096):
+        assert code(os.lseek, group, offset, os.SEEK_DATA) == code(os.lseek, group, offset, os.SEEK_HOLE) == "ENXIO"
+    assert os.lseek(group, 0, os.SEEK_CUR) == 0
+    os.close(group)
 
 
 def test_a_file_object_has_a_position(h, real):
@@ -675,7 +816,8 @@ def test_what_does_nothing(h, early, more):
     before = [os.stat(f"{AT}/a/pids.max"), os.stat(f"{AT}/a")]
     assert call(f"{AT}/a/pids.max", *more) is None and call(os.fsencode(f"{AT}/a"), *more) is None
     assert [os.stat(f"{AT}/a/pids.max"), os.stat(f"{AT}/a")] == before
-    assert told(call, f"{AT}/none/pids.max", *more) == ("ENOENT", f"{AT}/none/pids.max")
+    for missing in (f"{AT}/none/pids.max", "/none/x"):
+        assert told(call, missing, *more) == ("ENOENT", None if early.__name__ == "utime" else missing)
 
 
 # Measured on a mount: the errno of a truncation by a path, and by a descriptor that was opened for reading, or for writing.
@@ -868,6 +1010,93 @@ def test_mistaken_arguments_by_name_are_refused(h):
     os.close(fd)
 
 
+# functions that take a name and no descriptor, with their other arguments
+OF_NAMES = [
+    *(
+        ("lstat",),
+        ("access", 0),
+        ("mkdir",),
+        ("rmdir",),
+        ("readlink",),
+        ("unlink",),
+        ("remove",),
+        ("open", os.O_RDONLY),
+    ),
+    *(("mkfifo",), ("mknod",), ("lchown", -1, -1), ("chroot",), ("rename", "x"), ("replace", "x"), ("link", "x")),
+    ("symlink", "x"),
+]
+
+
+@pytest.mark.parametrize("name", ["a/pids.max", "a"])
+@pytest.mark.parametrize("call, words", [(name, words) for name, *words in OF_NAMES])
+def test_a_descriptor_is_no_name(h, real, call, words, name):
+    for top in (AT, real):
+        fd = os.open(f"{top}/{name}", os.O_RDONLY)
+        assert outcome(getattr(os, call), fd, *words) == ("TypeError", None), top
+        if words == ["x"]:
+            assert outcome(getattr(os, call), f"{top}/a", fd) == ("TypeError", None), top
+        os.close(fd)
+    assert h.groups() == ["/", "/a"]
+
+
+BESIDE_A_DESCRIPTOR = [
+    ("stat", [], {"follow_symlinks": False}),
+    ("stat", [], {"dir_fd": 0}),
+    ("stat", [], {"dir_fd": 0, "follow_symlinks": False}),
+    ("utime", [], {"follow_symlinks": False}),
+    ("utime", [], {"dir_fd": 0}),
+    ("chown", [-1, -1], {"dir_fd": 0}),
+    ("getxattr", ["user.x"], {"follow_symlinks": False}),
+    ("listxattr", [], {"follow_symlinks": False}),
+]
+
+
+@pytest.mark.parametrize("call, words, more", BESIDE_A_DESCRIPTOR)
+def test_words_that_do_not_go_with_a_descriptor(h, real, call, words, more):
+    for top in (AT, real):
+        for name in ("a/pids.max", "a"):
+            fd = os.open(f"{top}/{name}", os.O_RDONLY)
+            with pytest.raises(ValueError, match=f"^{call}: .*fd"):
+                getattr(os, call)(fd, *words, **more)
+            os.close(fd)
+
+
+@pytest.mark.parametrize("size", [1 << 63, 1 << 70, -1 << 70, 0.5, "1", None, b""])
+def test_a_length_is_a_number_of_the_kernel(h, real, size):
+    for top in (AT, real):
+        for name in ("a/pids.max", "a", "none"):
+            assert outcome(os.truncate, f"{top}/{name}", size)[0] in ("OverflowError", "TypeError"), top
+        fd = os.open(f"{top}/a/pids.max", os.O_RDWR)
+        assert outcome(os.truncate, fd, size)[0] in ("OverflowError", "TypeError"), top
+        assert outcome(os.ftruncate, fd, size)[0] in ("OverflowError", "TypeError"), top
+        os.close(fd)
+    assert h.read("/a", "pids.max") == "max\n"
+
+
+@pytest.mark.parametrize("name", ["a/pids.max", "a", "none", "none/../a", "x" * 300])
+@pytest.mark.parametrize(
+    "mode, more",
+    [(1 << 40, {}), (4.0, {}), ("r", {}), (None, {}), (0, {"nothing": 1}), (0, {"dir_fd": "x"}), (0, {"dir_fd": 1.5})],
+)
+def test_mistaken_arguments_of_access(h, real, name, mode, more):
+    for top in (AT, real):
+        with pytest.raises((TypeError, OverflowError)):
+            os.access(f"{top}/{name}", mode, **more)
+    found = [os.access(f"{top}/{name}", Number(os.F_OK), effective_ids=True, dir_fd=None) for top in (AT, real)]
+    assert found[0] == found[1]
+
+
+@pytest.mark.parametrize("call", ["stat", "lstat", "mkdir", "rmdir", "readlink", "unlink"])
+def test_a_descriptor_beside_a_path_is_a_number(h, real, call):
+    for top in (AT, real):
+        for name in (f"{top}/a", "a"):
+            with pytest.raises(TypeError):
+                getattr(os, call)(name, dir_fd="x")
+    fd = os.open(AT, os.O_RDONLY)
+    assert os.path.samestat(os.stat("a", dir_fd=fd), os.stat(f"{AT}/a", dir_fd=Number(fd)))
+    os.close(fd)
+
+
 def test_calls_of_a_descriptor_that_do_nothing(h):
     fd = os.open(f"{AT}/a/pids.max", os.O_RDWR)
     assert [
@@ -1042,6 +1271,8 @@ def test_an_error_of_a_descriptor_names_nothing(h, real):
             (os.pwrite, b"5", 0),
             (os.writev, [b"5"]),
             (os.ftruncate, 1),
+            (os.truncate, 1),
+            (os.truncate, -1),
             (os.lseek, -1, 0),
             (os.lseek, 0, 99),
             (os.pread, 1, -1),

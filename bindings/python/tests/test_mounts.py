@@ -419,7 +419,7 @@ def test_vectors(h):
         and os.lseek(fd, 0, os.SEEK_CUR) == 0
         and os.read(fd, 9) == b"56\n"
     )
-    assert code(os.writev, fd, [b"x", b"y"]) == "EINVAL" and code(os.preadv, fd, [first], -1) == "EINVAL"
+    assert code(os.writev, fd, [b"x", b"y"]) == "EINVAL" and code(os.preadv, fd, [first], -2) == "EINVAL"
     os.close(fd)
     reading, writing = os.open(f"{AT}/a/pids.max", os.O_RDONLY), os.open(f"{AT}/a/pids.max", os.O_WRONLY)
     assert code(os.writev, reading, [b"1"]) == "EBADF" and code(os.readv, writing, [first]) == "EBADF"
@@ -630,12 +630,7 @@ def test_no_other_kind_of_file_is_made(h):
 
 def test_a_seek_from_elsewhere_is_refused(h):
     fd = os.open(f"{AT}/a/pids.max", os.O_RDONLY)
-    assert (
-        code(os.lseek, fd, 0, os.SEEK_DATA)
-        == code(os.lseek, fd, 0, 9)
-        == code(os.lseek, fd, -1, os.SEEK_SET)
-        == "EINVAL"
-    )
+    assert code(os.lseek, fd, 0, -1) == code(os.lseek, fd, 0, 9) == code(os.lseek, fd, -1, os.SEEK_SET) == "EINVAL"
     assert os.read(fd, 9) == b"max\n"
     os.close(fd)
 

@@ -81,6 +81,46 @@ KEPT = [
         ("flags", "b/cpu.stat", os.O_RDWR | os.O_TMPFILE),
         ("flags", "", os.O_CREAT),
     ],
+    [
+        ("flags", "nowhere/../a", os.O_CREAT | os.O_DIRECTORY),
+        ("flags", "nowhere/../a", os.O_TMPFILE),
+        ("flags", "cpu.stat", os.O_TMPFILE & ~os.O_DIRECTORY | os.O_RDWR),
+        ("flags", "", os.O_TMPFILE | os.O_ACCMODE),
+    ],
+    [
+        ("hold", 0, "cpu.stat", os.O_ACCMODE),
+        ("by", 0, "read", 5),
+        ("by", 0, "write", b"1"),
+        ("by", 0, "lseek", 0, os.SEEK_END),
+        ("by", 0, "ftruncate", 0),
+    ],
+    [
+        ("hold", 0, "", os.O_PATH),
+        ("by", 0, "read", 5),
+        ("by", 0, "lseek", 0, 0),
+        ("by", 0, "listdir"),
+        ("by", 0, "fsync"),
+        ("by", 0, "utime"),
+        ("below", 0, "stat", "cpu.stat"),
+    ],
+    [
+        ("hold", 0, "cpu.stat", os.O_RDONLY),
+        *(("by", 0, "lseek", offset, whence) for offset in (0, 1, 4096, -1) for whence in (os.SEEK_DATA, os.SEEK_HOLE)),
+        ("hold", 1, "", os.O_RDONLY),
+        *(("by", 1, "lseek", offset, whence) for offset in (0, 1, 4096, -1) for whence in (os.SEEK_DATA, os.SEEK_HOLE)),
+    ],
+    [
+        ("makedirs", "a"),
+        ("hold", 0, "a/pids.max", os.O_RDWR),
+        ("by", 0, "read", 2),
+        ("by", 0, "pwritev", [b"5", b"7"], -1),
+        ("by", 0, "lseek", 0, 1),
+        ("by", 0, "preadv", [bytearray(2)], -1),
+        ("by", 0, "preadv", [bytearray(2)], -2),
+        ("by", 0, "readv", [bytearray(1)] * 1025),
+        ("by", 0, "pwritev", [b"5"] + [b""] * 1024, 0),
+    ],
+    [("hold", 0, "", os.O_RDONLY), ("by", 0, "readv", []), ("by", 0, "readv", [bytearray(1)] * 1025)],
     [("truncate", "a/b", -1), ("touch", "a/"), ("touch", "a/pids.max"), ("rmdir", "a/."), ("rmdir", "cpu.stat/..")],
     [
         ("makedirs", "a"),
@@ -96,7 +136,7 @@ DIFFER = [
     [("mkdir", "a", 0o700), ("stat", "a")],
     [("hold", 0, "", os.O_RDONLY), ("by", 0, "lseek", 2, 0), ("by", 0, "listdir")],
     [("hold", 0, "", os.O_RDONLY), ("below", 0, "stat", "..")],
-    [("flags", "nowhere/../a", os.O_CREAT | os.O_DIRECTORY)],
+    [("entries", "")],
 ]
 
 
