@@ -18,7 +18,7 @@ from typing import Any, Callable, Iterator
 
 from . import _audit, _names
 from ._descriptors import Shared
-from ._fd_calls import NO_DESCRIPTOR, REAL, DescriptorCalls, check_others
+from ._fd_calls import NO_DESCRIPTOR, REAL, DescriptorCalls, are_plain, check_others
 from ._replace import Place, Replacement, in_place, nameless
 from ._table import TEXT_MAX
 from ._tree import POSITION_MAX, Node, RawFile, Tree, error
@@ -51,6 +51,8 @@ _REFUSED = {
 _WITHOUT_EFFECT = ("chmod", "lchmod", "fchmod", "chown", "lchown", "fchown", "utime")
 _OF_TWO_NAMES = {"rename": _names.rename, "replace": _names.rename, "link": _names.link}
 _SYNCS = ("fsync", "fdatasync")
+# The kernel takes each choice of these flags of an open.
+_USUAL_FLAGS = os.O_WRONLY | os.O_RDWR | os.O_CLOEXEC | os.O_APPEND | os.O_TRUNC | os.O_NONBLOCK
 # Functions that take a file object for its descriptor, too.
 _OF_FILES = (*_SYNCS, "fchdir")
 _OF_DESCRIPTORS = (*_OF_FILES, "fchmod", "fchown", "fstatvfs", "fpathconf")
@@ -381,7 +383,8 @@ class Calls(DescriptorCalls):
             if node is None:
                 return self.was["access"](path, mode, dir_fd=dir_fd, **more)
             allowed = node.stat().st_mode >> 6 & 7
-        check_others("access", "", mode, dir_fd=dir_fd, **more)
+        if more or dir_fd is not None or not are_plain(mode):
+            check_others("access", "", mode, dir_fd=dir_fd, **more)
         return allowed is not None and operator.index(mode) & ~(allowed | (6 if os.geteuid() == 0 else 0)) == 0
 
     def listdir(self, path: Any = ".") -> Any:
@@ -533,6 +536,8 @@ def _is_refused(length: int) -> bool:
 
 def _check_flags(flags: int, mode: int, dir_fd: int | None, shown: Any) -> None:
     """Raises what the kernel says of the flags of an open before it looks at the path, which is not the empty one."""
+    if dir_fd is None and are_plain(flags, mode) and flags & ~_USUAL_FLAGS == 0:
+        return
     try:
         REAL["open"]("", flags, mode, dir_fd=dir_fd)
     except OSError as failure:

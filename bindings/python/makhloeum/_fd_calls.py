@@ -19,6 +19,11 @@ REAL: dict[str, Any] = dict(vars(os))
 _BUFFERS_MAX, _RW_FLAGS = 1024, 0x37
 
 
+def are_plain(*words: Any) -> bool:
+    """Whether each is a number that a real function takes, so that it needn't be asked."""
+    return all(type(word) is int and 0 <= word <= NO_DESCRIPTOR for word in words)
+
+
 def check_others(name: str, *words: Any, **more: Any) -> None:
     """Raises what is wrong with the arguments of a function of os, of which the first names nothing: the real function says so before
     it finds that."""
@@ -50,7 +55,8 @@ class DescriptorCalls:
     def pread(self, fd: int, size: int, offset: int) -> Any:
         if self.descriptors.get(fd) is None:
             return self.was["pread"](fd, size, offset)
-        check_others("pread", NO_DESCRIPTOR, size, offset)
+        if not are_plain(size, offset):
+            check_others("pread", NO_DESCRIPTOR, size, offset)
         self._check(fd, False, operator.index(size), operator.index(offset))
         raw = self.descriptors.raw(fd)
         return at_position(raw, offset, lambda: _part(raw, size))
@@ -114,7 +120,8 @@ class DescriptorCalls:
     def lseek(self, fd: int, offset: int, whence: int) -> Any:
         if self.descriptors.get(fd) is None:
             return self.was["lseek"](fd, offset, whence)
-        check_others("lseek", NO_DESCRIPTOR, offset, whence)
+        if not are_plain(offset, whence):
+            check_others("lseek", NO_DESCRIPTOR, offset, whence)
         opened = self.descriptors.get(fd)
         if isinstance(opened, Node) and not opened.only_named:
             return opened.seek(offset, whence)
